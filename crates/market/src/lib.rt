@@ -1,0 +1,3 @@
+//! The market arithmetic of one position: exact, in whole numbers, with no input left out.
+
+pub mod cents;
