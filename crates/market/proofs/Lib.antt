@@ -1,1 +1,4 @@
+pub mod Best
+pub mod Integers
+pub mod Profits
 pub mod Rounds

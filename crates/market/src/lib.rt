@@ -1,3 +1,4 @@
 //! The market arithmetic of one position: exact, in whole numbers, with no input left out.
 
 pub mod cents;
+pub mod ladder;
