@@ -1,2 +1,4 @@
 pub mod Cents
 pub mod Ladder
+pub mod Rows
+pub mod RowLists

@@ -2,3 +2,5 @@
 
 pub mod cents;
 pub mod ladder;
+mod row_list;
+pub mod rows;
