@@ -1,4 +1,5 @@
 pub mod Best
 pub mod Integers
+pub mod Lawfuls
 pub mod Profits
 pub mod Rounds

@@ -1,6 +1,8 @@
 //! The market arithmetic of one position: exact, in whole numbers, with no input left out.
 
+pub mod bid;
 pub mod cents;
 pub mod ladder;
+pub mod offer;
 mod row_list;
 pub mod rows;
