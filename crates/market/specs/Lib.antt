@@ -2,3 +2,4 @@ pub mod Cents
 pub mod Ladder
 pub mod Rows
 pub mod RowLists
+pub mod Figures

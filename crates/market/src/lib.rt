@@ -2,7 +2,9 @@
 
 pub mod bid;
 pub mod cents;
+pub mod figures;
 pub mod ladder;
 pub mod offer;
+pub mod range;
 mod row_list;
 pub mod rows;
