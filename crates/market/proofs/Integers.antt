@@ -13,6 +13,21 @@ times-sum a b c =
     let below = ap (λ x. down a * x) (sum-is b c) in
     omega (arith, ints)
 
+-- a product of three
+pub times-assoc : (a b c : ℤ) → (a *ℤ b) *ℤ c ≡ a *ℤ (b *ℤ c)
+times-assoc a b c =
+    let p = product-is a b in
+    let q = product-is b c in
+    let p1 = ap (λ x. x * up c) (p .0) in
+    let p2 = ap (λ x. x * down c) (p .0) in
+    let p3 = ap (λ x. x * up c) (p .1) in
+    let p4 = ap (λ x. x * down c) (p .1) in
+    let q1 = ap (λ x. up a * x) (q .0) in
+    let q2 = ap (λ x. down a * x) (q .0) in
+    let q3 = ap (λ x. up a * x) (q .1) in
+    let q4 = ap (λ x. down a * x) (q .1) in
+    omega (arith, same-in, product-is)
+
 natAbs-neg : (z : ℤ) → natAbs (negℤ z) ≡ natAbs z
 natAbs-neg z = omega (arith, ints)
 

@@ -3,3 +3,4 @@ pub mod Integers
 pub mod Lawfuls
 pub mod Profits
 pub mod Rounds
+pub mod Totals

@@ -5,3 +5,6 @@ pub mod RowLists
 pub mod Figures
 pub mod Sides
 pub mod Trades
+pub mod Positions
+pub mod Amounts
+pub mod Views

@@ -1,5 +1,6 @@
 //! The market arithmetic of one position: exact, in whole numbers, with no input left out.
 
+pub mod amounts;
 pub mod bid;
 pub mod cents;
 pub mod figures;

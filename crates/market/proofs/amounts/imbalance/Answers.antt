@@ -1,0 +1,9 @@
+use native.Mathlib.Omega.{arith}
+use borrow.Author.Differences.{ints}
+use Rattle.std.proofs.shelf.Signed.{toZ-ofZ}
+use Rattle.market.proofs.amounts.imbalance.Needs as need
+
+pub returns : need.returns
+returns c =
+    let small = c .worth .ensures .bound 200000 100800 (omega (arith, ints)) (omega (arith, ints)) in
+    record { value = grind (arith, toZ-ofZ); bound = omega (arith, ints) }
