@@ -4,6 +4,9 @@ use Prim.Native.Nat.{ℕ, suc, _+_, _-_, _*_, _≤_}
 use native.Mathlib.Nat.{mul-le-mul}
 use native.Mathlib.Omega.{arith}
 use lib.IntN.{ℤ, pos, negsuc, negℤ, natAbs, _+ℤ_, _-ℤ_, _*ℤ_}
+use lib.Signed.{_≤ℤ_}
+use Rattle.std.specs.Numbers.{maxZ}
+use Rattle.std.proofs.shelf.Signed.{clamps}
 use borrow.Author.Differences.{up, down, same-in, sum-is, neg-is, product-is, ints}
 
 -- a product with a sum
@@ -70,3 +73,7 @@ regroup a b c d = omega (arith, ints)
 
 pub no-difference : (a b : ℤ) → natAbs (a -ℤ b) ≤ 0 → a ≡ b
 no-difference a b h = omega (arith, ints)
+
+-- what the larger of two numbers falls short of a number that neither exceeds
+pub short-of-larger : (best a b larger : ℤ) (n : ℕ) → larger ≡ maxZ a b → a ≤ℤ best → b ≤ℤ best → natAbs (best -ℤ a) ≤ n → (pos 0 ≤ℤ (best -ℤ larger)) × (natAbs (best -ℤ larger) ≤ n)
+short-of-larger best a b larger n is h k near = omega (arith, ints, clamps)

@@ -1,9 +1,9 @@
 //! Ladders: what a quantity earns on one, where it earns most, and what a schedule loses.
 
-ghost use Prim.Native.Nat.{_*_, _≤_};
-ghost use Rattle.market.specs.Ladder.{Lawful, Point-law, Profit-law, Rows, economic-point, lost-profit};
+ghost use Prim.Native.Nat.{ℕ, _*_, _≤_};
+ghost use Rattle.market.specs.Ladder.{Lawful, Point-law, Profit-law, Rows, best-profit, economic-point, lost-profit};
 ghost use Rattle.market.specs.Ladder.{profit as profit-on};
-ghost use lib.IntN.{_*ℤ_, natAbs, pos};
+ghost use lib.IntN.{_*ℤ_, _-ℤ_, natAbs, pos};
 ghost use lib.Signed.{_≤ℤ_};
 ghost use mathlib.Core.Path.{_≡_};
 
@@ -69,6 +69,17 @@ pub fn economic_point<L: Ladder>(ladder: &L, price: i32) -> u32
     point
 }
 
+/// The profit at the economic point, which no quantity exceeds.
+pub fn best_profit<L: Ladder>(ladder: &L, price: i32) -> i64
+    ensures value { λ r. ⌜ r ≡ best-profit (means (now (ladder .entry))) price ⌝ }
+    ensures most { λ r. ⌜ ((quantity : ℕ) → profit-on (means (now (ladder .entry))) price quantity ≤ℤ r) ⌝ }
+    ensures gap { λ r. ⌜ ((quantity : ℕ) → natAbs (r -ℤ profit-on (means (now (ladder .entry))) price quantity) ≤ 40000000000) ⌝ }
+    ensures bound { λ r. ⌜ natAbs r ≤ 40000000000 ⌝ }
+{
+    let point = economic_point(ladder, price);
+    profit(ladder, price, 100 * u64::from(point))
+}
+
 /// The lost profit of a schedule, in tenths of a MW: the profit at the economic point less the profit at the schedule. It is never
 /// negative.
 pub fn lost_profit<L: Ladder>(ladder: &L, price: i32, schedule: u32) -> i64
@@ -76,6 +87,5 @@ pub fn lost_profit<L: Ladder>(ladder: &L, price: i32, schedule: u32) -> i64
     ensures sound { λ r. ⌜ pos 0 ≤ℤ r ⌝ }
     ensures bound { λ r. ⌜ natAbs r ≤ 40000000000 ⌝ }
 {
-    let point = economic_point(ladder, price);
-    profit(ladder, price, 100 * u64::from(point)) - profit(ladder, price, 100 * u64::from(schedule))
+    best_profit(ladder, price) - profit(ladder, price, 100 * u64::from(schedule))
 }

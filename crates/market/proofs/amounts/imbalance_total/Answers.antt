@@ -14,4 +14,8 @@ pub loop-interval-again : need.loop-interval-again
 loop-interval-again c = (grind (arith, toZ-ofZ, folded-more), omega (arith, ints))
 
 pub returns : need.returns
-returns c = record { value = total-all (imbalance (c .args .position .now .quantity .tenths)) interval-of (c .args .position .now .intervals) _ _ (c .loop-interval .inv .0) (omega arith); bound = omega (arith, ints) }
+returns c =
+    record {
+      value = total-all (imbalance (c .args .position .now .quantity .tenths)) interval-of (c .args .position .now .intervals) _ _ (c .loop-interval .inv .0) (omega arith);
+      bound = omega (arith, ints);
+    }

@@ -8,5 +8,5 @@ use Rattle.market.proofs.amounts.imbalance_total.Given as given
 
 abbrev pub Inv-loop-interval : given.InvT-loop-interval
 Inv-loop-interval l =
-    (l .sum ≡ total (λ t. imbalance (l .position .quantity .tenths) (interval-of t)) (take (l .interval-index) (l .position .intervals)))
+    (l .sum ≡ total (λ x. imbalance (l .position .quantity .tenths) (interval-of x)) (take (l .interval-index) (l .position .intervals)))
     × (natAbs (l .sum) ≤ 20160000000 * l .interval-index)

@@ -1,0 +1,21 @@
+use native.Mathlib.Omega.{arith}
+use borrow.Author.Differences.{ints}
+use Rattle.std.proofs.shelf.Signed.{toZ-ofZ}
+use Rattle.std.proofs.shelf.Sums.{folded-more}
+use Rattle.market.specs.Amounts.{reserve-change}
+use Rattle.market.specs.Views.{reserve-interval-of}
+use Rattle.market.proofs.Totals.{total-all}
+use Rattle.market.proofs.amounts.reserve_change_total.Needs as need
+
+pub add-sum : need.add-sum
+add-sum c = omega (arith, ints)
+
+pub loop-interval-again : need.loop-interval-again
+loop-interval-again c = (grind (arith, toZ-ofZ, folded-more), omega (arith, ints))
+
+pub returns : need.returns
+returns c =
+    record {
+      value = total-all (reserve-change (c .args .class .now .quantity .tenths)) reserve-interval-of (c .args .class .now .intervals) _ _ (c .loop-interval .inv .0) (omega arith);
+      bound = omega (arith, ints);
+    }
