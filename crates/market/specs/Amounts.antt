@@ -4,7 +4,7 @@ use Prim.Native.Nat.{ℕ, _*_}
 use lib.IntN.{ℤ, pos, _+ℤ_, _-ℤ_, _*ℤ_}
 use Rattle.std.specs.Iters.{folded}
 use Rattle.std.specs.Numbers.{maxZ}
-use Rattle.market.specs.Ladder.{Rows, profit, best-profit, lost-profit}
+use Rattle.ladders.specs.Ladder.{Rows, profit, best-profit, lost-profit}
 use Rattle.market.specs.Positions.{Interval, Position, Reserve-class, Reserve-interval, Virtual-position, Zone-prices}
 use Rattle.market.specs.Trades.{sign}
 

@@ -1,10 +1,7 @@
+pub mod Amounts
 pub mod Cents
-pub mod Ladder
-pub mod Rows
-pub mod RowLists
 pub mod Figures
+pub mod Positions
 pub mod Sides
 pub mod Trades
-pub mod Positions
-pub mod Amounts
 pub mod Views

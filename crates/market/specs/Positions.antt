@@ -3,7 +3,7 @@
 use mathlib.Core.List.{List}
 use Prim.Native.Nat.{ℕ}
 use lib.IntN.{ℤ}
-use Rattle.market.specs.Ladder.{Rows}
+use Rattle.ladders.specs.Ladder.{Rows}
 use Rattle.market.specs.declared.trade.Trade.{Trade}
 
 pub record Interval : Type 0 where

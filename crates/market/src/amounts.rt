@@ -3,8 +3,8 @@
 ghost use Prim.Native.Nat.{ℕ, _*_, _≤_};
 ghost use Rattle.market.specs.Amounts.{day-ahead-energy, day-ahead-make-whole, energy-payment, real-time-make-whole, reserve-change, reserve-loss, reserve-payment, total, virtual-trade};
 ghost use Rattle.market.specs.Amounts.{balancing as balanced, imbalance as imbalance-of, reserve as reserve-line, spread as spread-of};
-ghost use Rattle.market.specs.RowLists.{listed};
-ghost use Rattle.market.specs.Rows.{offered};
+ghost use Rattle.ladders.specs.Offers.{reserve-rows};
+ghost use Rattle.ladders.specs.Rows.{offered};
 ghost use Rattle.market.specs.Sides.{ladder-of};
 ghost use Rattle.market.specs.Views.{cents-of, interval-of, position-of, reserve-class-of, reserve-interval-of, virtual-position-of, zone-prices-of};
 ghost use lib.IntN.{_*ℤ_, natAbs, pos};
@@ -14,17 +14,17 @@ ghost use mathlib.Core.Path.{_≡_};
 use crate::figures::Price;
 use crate::figures::Quantity;
 use crate::figures::ReservePrice;
-use crate::ladder::Ladder;
-use crate::ladder::best_profit;
-use crate::ladder::lost_profit;
-use crate::ladder::profit;
+use ladders::ladder::Ladder;
+use ladders::ladder::best_profit;
+use ladders::ladder::lost_profit;
+use ladders::ladder::profit;
 use crate::position::Interval;
 use crate::position::Position;
 use crate::position::ReserveClass;
 use crate::position::ReserveInterval;
 use crate::position::VirtualPosition;
 use crate::position::ZonePrices;
-use crate::offer::ReserveOfferLadder;
+use ladders::offer::ReserveOfferLadder;
 use crate::side::SideLadder;
 
 /// A price times a quantity; the one may be a sum over the hour, the other a difference.
@@ -213,7 +213,7 @@ fn energy_payment_total(position: &Position) -> i64
 
 /// The reserve payments of the hour.
 fn reserve_payment_total(class: &ReserveClass) -> i64
-    ensures value { λ r. ⌜ r ≡ total (reserve-payment (offered (listed (now (class .entry) .offer .offer .list)))) (map reserve-interval-of (now (class .entry) .intervals)) ⌝ }
+    ensures value { λ r. ⌜ r ≡ total (reserve-payment (offered (reserve-rows (now (class .entry) .offer)))) (map reserve-interval-of (now (class .entry) .intervals)) ⌝ }
     ensures sound { λ r. ⌜ pos 0 ≤ℤ r ⌝ }
     ensures bound { λ r. ⌜ natAbs r ≤ 480000000000 ⌝ }
 {

@@ -6,7 +6,7 @@ use crate::figures::Price;
 use crate::figures::Quantity;
 use crate::figures::Reading;
 use crate::figures::ReservePrice;
-use crate::offer::ReserveOffer;
+use ladders::offer::ReserveOffer;
 use crate::side::Side;
 use crate::trade::Trade;
 

@@ -2,11 +2,11 @@
 
 ghost use Rattle.market.specs.Sides.{ladder-of, trade-of};
 ghost use mathlib.Core.Path.{_≡_};
-use crate::bid::Bid;
-use crate::bid::BidLadder;
-use crate::ladder::Ladder;
-use crate::offer::Offer;
-use crate::offer::OfferLadder;
+use ladders::bid::Bid;
+use ladders::bid::BidLadder;
+use ladders::ladder::Ladder;
+use ladders::offer::Offer;
+use ladders::offer::OfferLadder;
 use crate::trade::Trade;
 
 /// Who is settled, with the energy ladder of that side.

@@ -2,7 +2,7 @@ use native.Mathlib.Omega.{arith}
 use borrow.Author.Differences.{ints}
 use borrow.Author.Needs.{needs}
 use Rattle.std.proofs.shelf.Signed.{toZ-ofZ}
-use Rattle.market.proofs.Integers.{times-assoc}
+use Rattle.ladders.proofs.Integers.{times-assoc}
 use Rattle.market.proofs.amounts.day_ahead_energy.Needs as need
 
 pub returns : need.returns

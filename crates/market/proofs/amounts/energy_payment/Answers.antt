@@ -7,8 +7,8 @@ use mir.Val.{SFits}
 use borrow.Author.Differences.{ints}
 use borrow.Author.Needs.{needs}
 use Rattle.std.proofs.shelf.Signed.{clamps, toZ-ofZ}
-use Rattle.market.specs.Ladder.{profit}
-use Rattle.market.proofs.Integers.{short-of-larger}
+use Rattle.ladders.specs.Ladder.{profit}
+use Rattle.ladders.proofs.Integers.{short-of-larger}
 use Rattle.market.proofs.amounts.energy_payment.Needs as need
 
 pub sub-result : need.sub-result

@@ -1,7 +1,7 @@
 use native.Mathlib.Omega.{arith}
 use borrow.Author.Differences.{ints}
 use Rattle.std.proofs.shelf.Signed.{toZ-ofZ}
-use Rattle.market.proofs.Integers.{times-assoc}
+use Rattle.ladders.proofs.Integers.{times-assoc}
 use Rattle.market.proofs.amounts.reserve_change.Needs as need
 
 pub returns : need.returns

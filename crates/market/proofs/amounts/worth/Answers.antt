@@ -5,7 +5,7 @@ use mir.Syntax.{w64}
 use mir.Val.{SFits}
 use borrow.Author.Differences.{ints}
 use Rattle.std.proofs.shelf.Signed.{toZ-ofZ}
-use Rattle.market.proofs.Integers.{product-within}
+use Rattle.ladders.proofs.Integers.{product-within}
 use Rattle.market.proofs.amounts.worth.Needs as need
 
 pub mul-result : need.mul-result

@@ -1,11 +1,10 @@
 use mathlib.Core.Path.{refl}
 use native.Mathlib.Omega.{arith}
 use lib.IntN.{pos, natAbs}
-use Rattle.market.specs.Ladder.{Lawful}
-use Rattle.market.specs.RowLists.{listed}
+use Rattle.ladders.specs.Ladder.{Lawful}
 use Rattle.market.specs.Sides.{no-rows}
 use Rattle.market.specs.declared.side.Side.the-variants.{Generator, DispatchableLoad, LoadWithoutBids}
-use Rattle.market.proofs.Lawfuls.{offer-lawful, bid-lawful}
+use Rattle.ladders.proofs.Held.{offer-held, bid-held}
 use Rattle.market.proofs.side.SideLadder.the-impl.Needs as need
 
 none-lawful : Lawful no-rows
@@ -20,6 +19,6 @@ none-lawful = record {
 }
 
 pub lawful-law : need.lawful-law
-lawful-law (Generator offer) = offer-lawful (listed (offer .list)) (offer .good)
-lawful-law (DispatchableLoad bid) = bid-lawful (listed (bid .list)) (bid .good)
+lawful-law (Generator offer) = offer-held offer
+lawful-law (DispatchableLoad bid) = bid-held bid
 lawful-law LoadWithoutBids = none-lawful

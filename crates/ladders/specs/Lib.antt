@@ -1,0 +1,4 @@
+pub mod Ladder
+pub mod Offers
+pub mod RowLists
+pub mod Rows

@@ -1,8 +1,0 @@
--- The rows that an owned list of rows holds.
-use mathlib.Core.List.{List}
-use lib.ListN.{take}
-use Rattle.market.specs.declared.rows.Row.{Row}
-use Rattle.market.specs.declared.row_list.RowList.{RowList}
-
-abbrev pub listed : RowList → List Row
-listed list = take (list .count) (list .rows)
