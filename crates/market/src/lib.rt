@@ -7,3 +7,4 @@ pub mod position;
 pub mod range;
 pub mod side;
 pub mod trade;
+pub mod worked;
