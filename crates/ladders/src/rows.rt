@@ -5,6 +5,7 @@ ghost use Rattle.ladders.specs.Rows.{All-good, First-fault, follows, in-range,
 ghost use Rattle.std.specs.Results.{Cases};
 ghost use lib.ListN.{length};
 ghost use mathlib.Core.Path.{_≡_};
+use std::fmt;
 
 /// A row: its price in cents per MWh, and its end in tenths of a MW.
 #[derive(Clone, Copy)]
@@ -22,11 +23,20 @@ pub enum LadderKind {
 }
 
 /// Why rows make no ladder.
-#[derive(Clone, Copy)]
+#[derive(Clone, Copy, Debug, PartialEq, Eq)]
 pub enum LadderFault {
     TooManyRows,
     /// The first bad row, counted from 0.
     BadRow(usize),
+}
+
+pub impl fmt::Display for LadderFault as LadderFaultDisplay {
+    fn fmt<W: fmt::Write>(&self, f: &mut fmt::Formatter<W>) -> fmt::Result {
+        match self {
+            LadderFault::TooManyRows => f.write_str("too many rows"),
+            LadderFault::BadRow(row) => write!(f, "row {row} is out of range or out of step with the row before it"),
+        }
+    }
 }
 
 impl LadderKind {
