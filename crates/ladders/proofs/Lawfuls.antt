@@ -13,16 +13,16 @@ use borrow.Author.Differences.{ints}
 use Rattle.std.proofs.shelf.Lists.{getD-past}
 use Rattle.std.proofs.shelf.Signed.{clamps}
 use Rattle.std.proofs.shelf.Tests.{and-parts, cases-lt, lt-ltb, le-ltb}
-use Rattle.ladders.specs.Ladder.{Rows, Lawful, counted, start}
-use Rattle.ladders.specs.Rows.{All-good, row-at, no-row, follows, lowest-price, in-range, in-step, row-before, offered, bidden}
+use Rattle.ladders.specs.Ladder.{Rows, Lawful, counted-price, start}
+use Rattle.ladders.specs.Rows.{All-good, row-at, no-row, follows, lowest-price, in-range, in-step, row-before, offer-ladder, bid-ladder}
 use Rattle.ladders.specs.declared.rows.Row.{Row}
 use Rattle.ladders.specs.declared.rows.LadderKind.{LadderKind}
 use Rattle.ladders.specs.declared.rows.LadderKind.the-variants.{Offer, Bid, Reserve}
 
-counted-twice : (p : ℤ) → counted p ≡ counted (counted p)
-counted-twice p = omega (arith, ints, clamps)
+counted-price-twice : (p : ℤ) → counted-price p ≡ counted-price (counted-price p)
+counted-price-twice p = omega (arith, ints, clamps)
 
-pub gain-within : (p q : ℤ) → natAbs q ≤ 200000 → (natAbs (counted p -ℤ q) ≤ 400000) × (natAbs (q -ℤ counted p) ≤ 400000)
+pub gain-within : (p q : ℤ) → natAbs q ≤ 200000 → (natAbs (counted-price p -ℤ q) ≤ 400000) × (natAbs (q -ℤ counted-price p) ≤ 400000)
 gain-within p q h = omega (arith, ints, clamps)
 
 lowest-is : (kind : LadderKind) → negsuc 199999 ≤ℤ lowest-price kind
@@ -78,10 +78,10 @@ module _ (kind : LadderKind) (rows : List Row) (all : All-good kind rows) where
 
     -- what is left to show: that the gain falls from row to row, is bounded, counts a far price as its bound, and is none past the rows
     lawful : ((p : ℤ) (row : ℕ) → suc row < length rows → gain p (suc row) ≤ℤ gain p row)
-      → ((p : ℤ) (row : ℕ) → natAbs (gain p row) ≤ 400000)
-      → ((p : ℤ) (row : ℕ) → gain p row ≡ gain (counted p) row)
-      → ((p : ℤ) (row : ℕ) → length rows ≤ row → gain p row ≡ pos 0)
-      → Lawful ladder
+        → ((p : ℤ) (row : ℕ) → natAbs (gain p row) ≤ 400000)
+        → ((p : ℤ) (row : ℕ) → gain p row ≡ gain (counted-price p) row)
+        → ((p : ℤ) (row : ℕ) → length rows ≤ row → gain p row ≡ pos 0)
+        → Lawful ladder
     lawful falling bounded clamped no-gain = record {
       rising = rising;
       short = short;
@@ -113,20 +113,20 @@ module _ (there : ℤ → ℕ → ℤ) (n : ℕ) where
   gain-falls : ((p : ℤ) (row : ℕ) → suc row < n → there p (suc row) ≤ℤ there p row) → (p : ℤ) (row : ℕ) → suc row < n → gain-of p (suc row) ≤ℤ gain-of p row
   gain-falls falls p row h = rw (gain-there p (suc row) h, gain-there p row (omega arith)) (falls p row h)
 
-pub offer-lawful : (rows : List Row) → All-good Offer rows → Lawful (offered rows)
+pub offer-lawful : (rows : List Row) → All-good Offer rows → Lawful (offer-ladder rows)
 offer-lawful rows all =
-    let there : ℤ → ℕ → ℤ = λ p row. counted p -ℤ row-at rows row .price in
+    let there : ℤ → ℕ → ℤ = λ p row. counted-price p -ℤ row-at rows row .price in
     lawful Offer rows all (gain-of there (length rows))
     (gain-falls there (length rows) (λ p row h. let up = risen Offer rows all row h .1 in grind (arith, ints)))
     (gain-bounded there (length rows) (λ p row h. gain-within p (row-at rows row .price) (price-within Offer rows all row h) .0))
-    (λ p row. ap (λ q. cond (ltb row (length rows)) (q -ℤ row-at rows row .price) (pos 0)) (counted-twice p))
+    (λ p row. ap (λ q. cond (ltb row (length rows)) (q -ℤ row-at rows row .price) (pos 0)) (counted-price-twice p))
     (gain-past there (length rows))
 
-pub bid-lawful : (rows : List Row) → All-good Bid rows → Lawful (bidden rows)
+pub bid-lawful : (rows : List Row) → All-good Bid rows → Lawful (bid-ladder rows)
 bid-lawful rows all =
-    let there : ℤ → ℕ → ℤ = λ p row. row-at rows row .price -ℤ counted p in
+    let there : ℤ → ℕ → ℤ = λ p row. row-at rows row .price -ℤ counted-price p in
     lawful Bid rows all (gain-of there (length rows))
     (gain-falls there (length rows) (λ p row h. let down = risen Bid rows all row h .1 in grind (arith, ints)))
     (gain-bounded there (length rows) (λ p row h. gain-within p (row-at rows row .price) (price-within Bid rows all row h) .1))
-    (λ p row. ap (λ q. cond (ltb row (length rows)) (row-at rows row .price -ℤ q) (pos 0)) (counted-twice p))
+    (λ p row. ap (λ q. cond (ltb row (length rows)) (row-at rows row .price -ℤ q) (pos 0)) (counted-price-twice p))
     (gain-past there (length rows))

@@ -13,8 +13,8 @@ pub record Rows : Type 0 where
   pub gain : ℤ → ℕ → ℤ
 
 -- A price beyond a bound counts as the nearer bound.
-abbrev pub counted : ℤ → ℤ
-counted price = maxZ (negsuc 199999) (minZ price (pos 200000))
+abbrev pub counted-price : ℤ → ℤ
+counted-price price = maxZ (negsuc 199999) (minZ price (pos 200000))
 
 -- A row starts where the row before it ends, and the first one at 0. At the number of rows this is the last end.
 abbrev pub start : Rows → ℕ → ℕ
@@ -32,7 +32,7 @@ pub record Lawful (rows : Rows) : Type 0 where
   -- at any one price no gain exceeds the gain of the row before
   pub falling : (price : ℤ) (row : ℕ) → suc row < rows .count → rows .gain price (suc row) ≤ℤ rows .gain price row
   pub bounded : (price : ℤ) (row : ℕ) → natAbs (rows .gain price row) ≤ 400000
-  pub clamped : (price : ℤ) (row : ℕ) → rows .gain price row ≡ rows .gain (counted price) row
+  pub clamped : (price : ℤ) (row : ℕ) → rows .gain price row ≡ rows .gain (counted-price price) row
   -- a row that isn't there
   pub no-end : (row : ℕ) → rows .count ≤ row → rows .end row ≡ 0
   pub no-gain : (price : ℤ) (row : ℕ) → rows .count ≤ row → rows .gain price row ≡ pos 0
@@ -71,7 +71,7 @@ lost-profit rows price schedule = best-profit rows price -ℤ profit rows price 
 pub record Profit-law (rows : Rows) (price : ℤ) : Type 0 where
   pub nothing : profit rows price 0 ≡ pos 0
   pub one-more : (row quantity : ℕ) → row < rows .count → 100 * start rows row ≤ quantity → quantity < 100 * rows .end row
-    → profit rows price (suc quantity) ≡ profit rows price quantity +ℤ rows .gain price row
+      → profit rows price (suc quantity) ≡ profit rows price quantity +ℤ rows .gain price row
   pub past : (quantity : ℕ) → 100 * last-end rows ≤ quantity → profit rows price quantity ≡ profit rows price (100 * last-end rows)
 
 -- The law of the economic point: no quantity earns more than it, it is the end of the last row with gain 0 or more, and it is 0 if
@@ -79,6 +79,6 @@ pub record Profit-law (rows : Rows) (price : ℤ) : Type 0 where
 pub record Point-law (rows : Rows) (price : ℤ) (point : ℕ) : Type 0 where
   pub best : (quantity : ℕ) → profit rows price quantity ≤ℤ profit rows price (100 * point)
   pub last : (row : ℕ) → row < rows .count → pos 0 ≤ℤ rows .gain price row
-    → ((later : ℕ) → row < later → later < rows .count → rows .gain price later <ℤ pos 0)
-    → point ≡ rows .end row
+      → ((later : ℕ) → row < later → later < rows .count → rows .gain price later <ℤ pos 0)
+      → point ≡ rows .end row
   pub none : ((row : ℕ) → row < rows .count → rows .gain price row <ℤ pos 0) → point ≡ 0

@@ -11,7 +11,7 @@ use Rattle.std.specs.declared.option.Option.{Option}
 use Rattle.std.specs.declared.option.Option.the-variants.{Some, None}
 use Rattle.std.specs.declared.result.Result.{Result}
 use Rattle.std.specs.declared.result.Result.the-variants.{Ok, Err}
-use Rattle.ladders.specs.Ladder.{Rows, counted}
+use Rattle.ladders.specs.Ladder.{Rows, counted-price}
 use Rattle.ladders.specs.declared.rows.Row.{Row}
 use Rattle.ladders.specs.declared.rows.LadderKind.{LadderKind}
 use Rattle.ladders.specs.declared.rows.LadderKind.the-variants.{Offer, Bid, Reserve}
@@ -76,17 +76,17 @@ Made rows-of kind rows (Err fault) = First-fault kind rows fault
 
 -- ---- the ladder that rows mean
 -- An offer gains the price less the row's price.
-abbrev pub offered : List Row → Rows
-offered rows = record {
+abbrev pub offer-ladder : List Row → Rows
+offer-ladder rows = record {
   count = length rows;
   end = λ row. natAbs (row-at rows row .end);
-  gain = λ price row. cond (ltb row (length rows)) (counted price -ℤ row-at rows row .price) (pos 0);
+  gain = λ price row. cond (ltb row (length rows)) (counted-price price -ℤ row-at rows row .price) (pos 0);
 }
 
 -- A bid gains the row's price less the price.
-abbrev pub bidden : List Row → Rows
-bidden rows = record {
+abbrev pub bid-ladder : List Row → Rows
+bid-ladder rows = record {
   count = length rows;
   end = λ row. natAbs (row-at rows row .end);
-  gain = λ price row. cond (ltb row (length rows)) (row-at rows row .price -ℤ counted price) (pos 0);
+  gain = λ price row. cond (ltb row (length rows)) (row-at rows row .price -ℤ counted-price price) (pos 0);
 }

@@ -1,6 +1,6 @@
 //! Bids: ladders that gain the row's price less the price.
 
-ghost use Rattle.ladders.specs.Rows.{All-good, Made, bidden};
+ghost use Rattle.ladders.specs.Rows.{All-good, Made, bid-ladder};
 ghost use Rattle.ladders.specs.RowLists.{listed};
 ghost use Rattle.ladders.specs.declared.rows.LadderKind.the-variants.{Bid as bid-kind};
 use crate::ladder::Ladder;
@@ -28,7 +28,7 @@ impl Bid {
 }
 
 pub impl Ladder for Bid as BidLadder {
-    ghost means = { λ b. bidden (listed (b .list)) };
+    ghost means = { λ b. bid-ladder (listed (b .list)) };
 
     fn rows(&self) -> usize {
         self.list.len()

@@ -1,7 +1,7 @@
 //! Offers: ladders that gain the price less the row's price. Reserve offers have few rows and no price below 0.
 
 ghost use Prim.Native.Nat.{_≤_};
-ghost use Rattle.ladders.specs.Rows.{All-good, Made, offered};
+ghost use Rattle.ladders.specs.Rows.{All-good, Made, offer-ladder};
 ghost use Rattle.ladders.specs.RowLists.{listed};
 ghost use Rattle.ladders.specs.declared.rows.LadderKind.the-variants.{Offer as offer-kind, Reserve as reserve-kind};
 ghost use lib.ListN.{length};
@@ -50,7 +50,7 @@ impl ReserveOffer {
 }
 
 pub impl Ladder for Offer as OfferLadder {
-    ghost means = { λ o. offered (listed (o .list)) };
+    ghost means = { λ o. offer-ladder (listed (o .list)) };
 
     fn rows(&self) -> usize {
         self.list.len()
@@ -70,7 +70,7 @@ pub impl Ladder for Offer as OfferLadder {
 }
 
 pub impl Ladder for ReserveOffer as ReserveOfferLadder {
-    ghost means = { λ o. offered (listed (o .offer .list)) };
+    ghost means = { λ o. offer-ladder (listed (o .offer .list)) };
 
     fn rows(&self) -> usize {
         self.offer.rows()

@@ -34,7 +34,10 @@ pub impl fmt::Display for LadderFault as LadderFaultDisplay {
     fn fmt<W: fmt::Write>(&self, f: &mut fmt::Formatter<W>) -> fmt::Result {
         match self {
             LadderFault::TooManyRows => f.write_str("too many rows"),
-            LadderFault::BadRow(row) => write!(f, "row {row} is out of range or out of step with the row before it"),
+            LadderFault::BadRow(row) => write!(
+                f,
+                "row {row} is out of range or out of step with the row before it"
+            ),
         }
     }
 }

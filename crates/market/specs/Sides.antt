@@ -2,7 +2,7 @@
 use lib.IntN.{pos}
 use Rattle.ladders.specs.Ladder.{Rows}
 use Rattle.ladders.specs.Offers.{offer-rows, bid-rows}
-use Rattle.ladders.specs.Rows.{offered, bidden}
+use Rattle.ladders.specs.Rows.{offer-ladder, bid-ladder}
 use Rattle.market.specs.declared.side.Side.{Side}
 use Rattle.market.specs.declared.side.Side.the-variants.{Generator, DispatchableLoad, LoadWithoutBids}
 use Rattle.market.specs.declared.trade.Trade.{Trade}
@@ -20,6 +20,6 @@ no-rows = record { count = 0; end = λ _. 0; gain = λ _ _. pos 0 }
 
 -- The energy ladder of a side.
 abbrev pub ladder-of : Side → Rows
-ladder-of (Generator offer) = offered (offer-rows offer)
-ladder-of (DispatchableLoad bid) = bidden (bid-rows bid)
+ladder-of (Generator offer) = offer-ladder (offer-rows offer)
+ladder-of (DispatchableLoad bid) = bid-ladder (bid-rows bid)
 ladder-of LoadWithoutBids = no-rows

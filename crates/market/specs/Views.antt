@@ -3,7 +3,7 @@ use mathlib.Core.List.{List, map}
 use lib.IntN.{ℤ}
 use Rattle.market.specs.Positions.{Interval, Position, Reserve-class, Reserve-interval, Virtual-position, Zone-prices}
 use Rattle.ladders.specs.Offers.{reserve-rows}
-use Rattle.ladders.specs.Rows.{offered}
+use Rattle.ladders.specs.Rows.{offer-ladder}
 use Rattle.market.specs.Sides.{ladder-of, trade-of}
 use Rattle.market.specs.declared.figures.Price.{Price}
 use Rattle.market.specs.declared.position.Interval.{Interval as HeldInterval}
@@ -23,7 +23,7 @@ abbrev pub reserve-class-of : ReserveClass → Reserve-class
 reserve-class-of c = record {
   price = c .price .cents;
   quantity = c .quantity .tenths;
-  ladder = offered (reserve-rows (c .offer));
+  ladder = offer-ladder (reserve-rows (c .offer));
   intervals = map reserve-interval-of (c .intervals);
 }
 

@@ -6,7 +6,7 @@ use lib.IntN.{ℤ, pos, negsuc}
 use lib.ListN.{replicate}
 use Rattle.std.specs.shelf.Lists.{All}
 use Rattle.ladders.specs.Ladder.{economic-point}
-use Rattle.ladders.specs.Rows.{offered, bidden}
+use Rattle.ladders.specs.Rows.{offer-ladder, bid-ladder}
 use Rattle.ladders.specs.declared.rows.Row.{Row}
 use Rattle.market.specs.Amounts.{day-ahead-make-whole}
 use Rattle.market.specs.Cents.{nearest-cent}
@@ -33,7 +33,7 @@ two-row-bid = row 5000 100 ∷ (row 2000 300 ∷ [])
 abbrev pub generator : Position
 generator = record {
   trade = Sale;
-  ladder = offered two-row-offer;
+  ladder = offer-ladder two-row-offer;
   price = pos 4000;
   quantity = 500;
   intervals = replicate 12 (record { price = pos 4200; schedule = 500; reading = 4200 });
@@ -41,10 +41,10 @@ generator = record {
 }
 
 abbrev offer-points : List ℤ → List ℤ
-offer-points prices = map (λ price. pos (economic-point (offered two-row-offer) price)) prices
+offer-points prices = map (λ price. pos (economic-point (offer-ladder two-row-offer) price)) prices
 
 abbrev bid-points : List ℤ → List ℤ
-bid-points prices = map (λ price. pos (economic-point (bidden two-row-bid) price)) prices
+bid-points prices = map (λ price. pos (economic-point (bid-ladder two-row-bid) price)) prices
 
 abbrev pub examples : List Example
 examples =

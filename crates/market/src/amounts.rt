@@ -4,7 +4,7 @@ ghost use Prim.Native.Nat.{ℕ, _*_, _≤_};
 ghost use Rattle.market.specs.Amounts.{day-ahead-energy, day-ahead-make-whole, energy-payment, real-time-make-whole, reserve-change, reserve-loss, reserve-payment, total, virtual-trade};
 ghost use Rattle.market.specs.Amounts.{balancing as balanced, imbalance as imbalance-of, reserve as reserve-line, spread as spread-of};
 ghost use Rattle.ladders.specs.Offers.{reserve-rows};
-ghost use Rattle.ladders.specs.Rows.{offered};
+ghost use Rattle.ladders.specs.Rows.{offer-ladder};
 ghost use Rattle.market.specs.Sides.{ladder-of};
 ghost use Rattle.market.specs.Views.{cents-of, interval-of, position-of, reserve-class-of, reserve-interval-of, virtual-position-of, zone-prices-of};
 ghost use lib.IntN.{_*ℤ_, natAbs, pos};
@@ -14,18 +14,18 @@ ghost use mathlib.Core.Path.{_≡_};
 use crate::figures::Price;
 use crate::figures::Quantity;
 use crate::figures::ReservePrice;
-use ladders::ladder::Ladder;
-use ladders::ladder::best_profit;
-use ladders::ladder::lost_profit;
-use ladders::ladder::profit;
 use crate::position::Interval;
 use crate::position::Position;
 use crate::position::ReserveClass;
 use crate::position::ReserveInterval;
 use crate::position::VirtualPosition;
 use crate::position::ZonePrices;
-use ladders::offer::ReserveOfferLadder;
 use crate::side::SideLadder;
+use ladders::ladder::Ladder;
+use ladders::ladder::best_profit;
+use ladders::ladder::lost_profit;
+use ladders::ladder::profit;
+use ladders::offer::ReserveOfferLadder;
 
 /// A price times a quantity; the one may be a sum over the hour, the other a difference.
 fn worth(price: i64, quantity: i64) -> i64
@@ -42,7 +42,10 @@ fn day_ahead_worth(position: &Position) -> i64
     ensures value { λ r. ⌜ r ≡ now (position .entry) .price .cents *ℤ pos (now (position .entry) .quantity .tenths) ⌝ }
     ensures bound { λ r. ⌜ natAbs r ≤ 200000000 ⌝ }
 {
-    worth(i64::from(position.price.cents), i64::from(position.quantity.tenths))
+    worth(
+        i64::from(position.price.cents),
+        i64::from(position.quantity.tenths),
+    )
 }
 
 /// Line 1, day-ahead energy: the day-ahead quantity at its price.
@@ -50,7 +53,10 @@ pub fn day_ahead_energy(position: &Position) -> i64
     ensures value { λ r. ⌜ r ≡ day-ahead-energy (position-of (now (position .entry))) ⌝ }
     ensures bound { λ r. ⌜ natAbs r ≤ 240000000000 ⌝ }
 {
-    position.side.trade().signed(1_200 * day_ahead_worth(position))
+    position
+        .side
+        .trade()
+        .signed(1_200 * day_ahead_worth(position))
 }
 
 /// What one interval's reading earns beyond the day-ahead quantity, as a sale sees it.
@@ -163,7 +169,11 @@ pub fn day_ahead_make_whole(position: &Position) -> i64
     ensures sound { λ r. ⌜ pos 0 ≤ℤ r ⌝ }
     ensures bound { λ r. ⌜ natAbs r ≤ 960000000000 ⌝ }
 {
-    let energy = lost_profit(&position.side, position.price.cents, position.quantity.tenths);
+    let energy = lost_profit(
+        &position.side,
+        position.price.cents,
+        position.quantity.tenths,
+    );
     12 * (energy + reserve_loss(&position.reserve))
 }
 
@@ -173,7 +183,11 @@ fn reserve_loss(class: &ReserveClass) -> i64
     ensures sound { λ r. ⌜ pos 0 ≤ℤ r ⌝ }
     ensures bound { λ r. ⌜ natAbs r ≤ 40000000000 ⌝ }
 {
-    lost_profit(&class.offer, class.price.cents as i32, class.quantity.tenths)
+    lost_profit(
+        &class.offer,
+        class.price.cents as i32,
+        class.quantity.tenths,
+    )
 }
 
 /// The energy payment of one interval: the profit at the economic point, less the larger of the profits at schedule and reading. It
@@ -195,7 +209,11 @@ pub fn reserve_payment<L: Ladder>(ladder: &L, interval: &ReserveInterval) -> i64
     ensures sound { λ r. ⌜ pos 0 ≤ℤ r ⌝ }
     ensures bound { λ r. ⌜ natAbs r ≤ 40000000000 ⌝ }
 {
-    lost_profit(ladder, interval.price.cents as i32, interval.schedule.tenths)
+    lost_profit(
+        ladder,
+        interval.price.cents as i32,
+        interval.schedule.tenths,
+    )
 }
 
 /// The energy payments of the hour.
@@ -213,7 +231,7 @@ fn energy_payment_total(position: &Position) -> i64
 
 /// The reserve payments of the hour.
 fn reserve_payment_total(class: &ReserveClass) -> i64
-    ensures value { λ r. ⌜ r ≡ total (reserve-payment (offered (reserve-rows (now (class .entry) .offer)))) (map reserve-interval-of (now (class .entry) .intervals)) ⌝ }
+    ensures value { λ r. ⌜ r ≡ total (reserve-payment (offer-ladder (reserve-rows (now (class .entry) .offer)))) (map reserve-interval-of (now (class .entry) .intervals)) ⌝ }
     ensures sound { λ r. ⌜ pos 0 ≤ℤ r ⌝ }
     ensures bound { λ r. ⌜ natAbs r ≤ 480000000000 ⌝ }
 {

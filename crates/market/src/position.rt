@@ -6,9 +6,9 @@ use crate::figures::Price;
 use crate::figures::Quantity;
 use crate::figures::Reading;
 use crate::figures::ReservePrice;
-use ladders::offer::ReserveOffer;
 use crate::side::Side;
 use crate::trade::Trade;
+use ladders::offer::ReserveOffer;
 
 /// Five minutes of the hour: the price, what was scheduled and what the meter read.
 #[derive(Clone, Copy)]

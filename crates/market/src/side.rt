@@ -2,12 +2,12 @@
 
 ghost use Rattle.market.specs.Sides.{ladder-of, trade-of};
 ghost use mathlib.Core.Path.{_≡_};
+use crate::trade::Trade;
 use ladders::bid::Bid;
 use ladders::bid::BidLadder;
 use ladders::ladder::Ladder;
 use ladders::offer::Offer;
 use ladders::offer::OfferLadder;
-use crate::trade::Trade;
 
 /// Who is settled, with the energy ladder of that side.
 #[derive(Clone, Copy)]

@@ -68,14 +68,16 @@ fn two_row_offer() -> Result<(), Fail> {
 
 #[test]
 fn offer_with_equal_steps() -> Result<(), Fail> {
-    let offer = Offer::new(&[
-        step(-200_000, 1),
-        step(-150, 7),
-        step(-150, 8),
-        step(0, 9),
-        step(199_999, 999),
-        step(200_000, 1_000),
-    ])?;
+    let offer = Offer::new(
+        &[
+            step(-200_000, 1),
+            step(-150, 7),
+            step(-150, 8),
+            step(0, 9),
+            step(199_999, 999),
+            step(200_000, 1_000),
+        ],
+    )?;
     let cases = [
         at(0, 850, 20_105_000, 9),
         at(0, 950, 10_105_050, 9),
@@ -128,24 +130,55 @@ fn reserve_fault(rows: &[Row]) -> Option<LadderFault> {
 fn first_bad_row_of_an_offer() -> Result<(), Fail> {
     check_eq(offer_fault(&[step(0, 0)]), Some(LadderFault::BadRow(0)))?;
     check_eq(offer_fault(&[step(0, -1)]), Some(LadderFault::BadRow(0)))?;
-    check_eq(offer_fault(&[step(0, 1), step(0, 1)]), Some(LadderFault::BadRow(1)))?;
-    check_eq(offer_fault(&[step(5, 1), step(4, 2), step(3, 3)]), Some(LadderFault::BadRow(1)))?;
-    check_eq(offer_fault(&[step(5, 1), step(6, 1_001), step(3, 3)]), Some(LadderFault::BadRow(1)))?;
-    check_eq(offer_fault(&[step(200_001, 1)]), Some(LadderFault::BadRow(0)))?;
-    check_eq(offer_fault(&[step(-200_001, 1)]), Some(LadderFault::BadRow(0)))?;
-    check_eq(offer_fault(&[step(-200_000, 1), step(200_000, 1_000)]), None)
+    check_eq(
+        offer_fault(&[step(0, 1), step(0, 1)]),
+        Some(LadderFault::BadRow(1)),
+    )?;
+    check_eq(
+        offer_fault(&[step(5, 1), step(4, 2), step(3, 3)]),
+        Some(LadderFault::BadRow(1)),
+    )?;
+    check_eq(
+        offer_fault(&[step(5, 1), step(6, 1_001), step(3, 3)]),
+        Some(LadderFault::BadRow(1)),
+    )?;
+    check_eq(
+        offer_fault(&[step(200_001, 1)]),
+        Some(LadderFault::BadRow(0)),
+    )?;
+    check_eq(
+        offer_fault(&[step(-200_001, 1)]),
+        Some(LadderFault::BadRow(0)),
+    )?;
+    check_eq(
+        offer_fault(&[step(-200_000, 1), step(200_000, 1_000)]),
+        None,
+    )
 }
 
 #[test]
 fn first_bad_row_of_a_bid() -> Result<(), Fail> {
-    check_eq(bid_fault(&[step(4, 1), step(5, 2)]), Some(LadderFault::BadRow(1)))?;
-    check_eq(bid_fault(&[step(5, 2), step(5, 3), step(4, 3)]), Some(LadderFault::BadRow(2)))?;
+    check_eq(
+        bid_fault(&[step(4, 1), step(5, 2)]),
+        Some(LadderFault::BadRow(1)),
+    )?;
+    check_eq(
+        bid_fault(&[step(5, 2), step(5, 3), step(4, 3)]),
+        Some(LadderFault::BadRow(2)),
+    )?;
     check_eq(bid_fault(&[step(200_000, 1), step(-200_000, 1_000)]), None)
 }
 
 #[test]
 fn reserve_has_few_rows_and_no_price_below_0() -> Result<(), Fail> {
-    let rows = [step(0, 1), step(0, 2), step(0, 3), step(0, 4), step(0, 5), step(0, 6)];
+    let rows = [
+        step(0, 1),
+        step(0, 2),
+        step(0, 3),
+        step(0, 4),
+        step(0, 5),
+        step(0, 6),
+    ];
     check_eq(reserve_fault(&rows), Some(LadderFault::TooManyRows))?;
     check_eq(reserve_fault(&rows[0..5]), None)?;
     check_eq(reserve_fault(&[step(-1, 1)]), Some(LadderFault::BadRow(0)))

@@ -166,7 +166,10 @@ fn refused(figure: Figure, value: i32) -> Option<OutOfRange> {
 fn figures_out_of_range() -> Result<(), Fail> {
     check_eq(Price::new(200_001).err(), refused(Figure::Price, 200_001))?;
     check_eq(Price::new(-200_001).err(), refused(Figure::Price, -200_001))?;
-    check_eq(ReservePrice::new(-1).err(), refused(Figure::ReservePrice, -1))?;
+    check_eq(
+        ReservePrice::new(-1).err(),
+        refused(Figure::ReservePrice, -1),
+    )?;
     check_eq(Quantity::new(1_001).err(), refused(Figure::Quantity, 1_001))?;
     check_eq(Reading::new(8_401).err(), refused(Figure::Reading, 8_401))?;
     check_eq(Reading::new(8_400)?.kwh, 8_400)?;

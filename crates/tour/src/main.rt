@@ -120,15 +120,30 @@ fn no_virtual_trade() -> Result<i64, Refusal> {
 // Where the offer earns most, and what it earns there and where the generator was.
 fn tell_profits(rt: &impl Print, offer: &Offer) -> io::Result<()> {
     let day_ahead = economic_point(offer, DAY_AHEAD_PRICE);
-    println!(rt, "economic point at the day-ahead price {DAY_AHEAD_PRICE}: {day_ahead} tenths of a MW")?;
+    println!(
+        rt,
+        "economic point at the day-ahead price {DAY_AHEAD_PRICE}: {day_ahead} tenths of a MW"
+    )?;
     let real_time = economic_point(offer, REAL_TIME_PRICE);
-    println!(rt, "economic point at the real-time price {REAL_TIME_PRICE}: {real_time} tenths of a MW")?;
+    println!(
+        rt,
+        "economic point at the real-time price {REAL_TIME_PRICE}: {real_time} tenths of a MW"
+    )?;
     let at_point = profit(offer, REAL_TIME_PRICE, 100 * u64::from(real_time));
     let at_schedule = profit(offer, REAL_TIME_PRICE, 100 * 500);
     let at_reading = profit(offer, REAL_TIME_PRICE, 12 * 4_200);
-    println!(rt, "profit of one interval in grains, at the point: {at_point}")?;
-    println!(rt, "profit of one interval in grains, at the schedule of {SCHEDULE}: {at_schedule}")?;
-    println!(rt, "profit of one interval in grains, at the reading of {READING} kWh: {at_reading}")
+    println!(
+        rt,
+        "profit of one interval in grains, at the point: {at_point}"
+    )?;
+    println!(
+        rt,
+        "profit of one interval in grains, at the schedule of {SCHEDULE}: {at_schedule}"
+    )?;
+    println!(
+        rt,
+        "profit of one interval in grains, at the reading of {READING} kWh: {at_reading}"
+    )
 }
 
 fn tell_line(rt: &impl Print, number: u32, name: &str, grains: i64) -> io::Result<()> {
@@ -141,8 +156,18 @@ fn tell_lines(rt: &impl Print, position: &Position, virtual_grains: i64) -> io::
     tell_line(rt, 2, "balancing", balancing(position))?;
     tell_line(rt, 3, "virtual", virtual_grains)?;
     tell_line(rt, 4, "reserve", reserve(&position.reserve))?;
-    tell_line(rt, 5, "day-ahead make-whole", day_ahead_make_whole(position))?;
-    tell_line(rt, 6, "real-time make-whole", real_time_make_whole(position))
+    tell_line(
+        rt,
+        5,
+        "day-ahead make-whole",
+        day_ahead_make_whole(position),
+    )?;
+    tell_line(
+        rt,
+        6,
+        "real-time make-whole",
+        real_time_make_whole(position),
+    )
 }
 
 fn tell_refusal(rt: &impl Print, refusal: Refusal) -> io::Result<()> {
@@ -153,7 +178,10 @@ fn tell_refusal(rt: &impl Print, refusal: Refusal) -> io::Result<()> {
 }
 
 fn settle(rt: &impl Print) -> io::Result<()> {
-    println!(rt, "a generator offers 3000 cents per MWh to 400 tenths of a MW and 5000 to 600")?;
+    println!(
+        rt,
+        "a generator offers 3000 cents per MWh to 400 tenths of a MW and 5000 to 600"
+    )?;
     let offer = match Offer::new(&ROWS) {
         Ok(offer) => offer,
         Err(fault) => return tell_refusal(rt, Refusal::Ladder(fault)),
@@ -187,5 +215,8 @@ fn main(rt: LibcRuntime) -> io::Result<()> {
     settle(&rt)?;
     tell_bad_input(&rt)?;
     let count = worked::examples();
-    println!(rt, "worked examples that are proved of the definitions: {count}")
+    println!(
+        rt,
+        "worked examples that are proved of the definitions: {count}"
+    )
 }
