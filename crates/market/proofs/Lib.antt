@@ -1,3 +1,2 @@
-pub mod Hold
 pub mod Rounds
 pub mod Totals

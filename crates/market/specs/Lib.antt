@@ -5,4 +5,3 @@ pub mod Positions
 pub mod Sides
 pub mod Trades
 pub mod Views
-pub mod Worked

@@ -7,4 +7,3 @@ pub mod position;
 pub mod range;
 pub mod side;
 pub mod trade;
-pub mod worked;

@@ -1,6 +1,6 @@
-//! The worked examples.
+//! The worked examples, which hold of the definitions of all libraries.
 
-ghost use Rattle.market.specs.Worked.{Examples-hold, examples as worked};
+ghost use Rattle.worked.specs.Worked.{Examples-hold, examples as worked};
 ghost use lib.ListN.{length};
 ghost use mathlib.Core.Path.{_≡_};
 
@@ -9,5 +9,5 @@ pub fn examples() -> usize
     ensures value { λ r. ⌜ r ≡ length worked ⌝ }
     ensures hold { λ _. ⌜ Examples-hold ⌝ }
 {
-    4
+    9
 }

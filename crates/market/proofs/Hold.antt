@@ -1,9 +1,0 @@
--- The worked examples hold: each is computed.
-use mathlib.Core.Path.{refl}
-use Rattle.ladders.specs.Ladder.{earned, point-among}
-use Rattle.market.specs.Cents.{nearest-cent}
-use Rattle.market.specs.Worked.{Examples-hold}
-
-pub examples-hold : Examples-hold
-unfolding nearest-cent earned point-among
-examples-hold = (refl, (refl, (refl, (refl, tt))))

@@ -1,0 +1,3 @@
+pub mod Dividing
+pub mod Signs
+pub mod Weighing
