@@ -28,8 +28,18 @@ use market::range::OutOfRange;
 use market::range::OutOfRangeDisplay;
 use market::side::Side;
 use market::trade::Trade;
-use market::worked;
+use pools::basis::Basis;
+use pools::basis::Exemption;
+use pools::basis::ExemptionBasis;
+use pools::basis::FixedShares;
+use pools::basis::FixedSharesBasis;
+use pools::basis::Withdrawn;
+use pools::basis::WithdrawnBasis;
+use pools::pool::Pool;
+use pools::pool::share;
+use pools::withdrawals::Withdrawals;
 use std::io;
+use worked::examples;
 
 #[derive(Clone, Copy)]
 enum Refusal {
@@ -170,6 +180,75 @@ fn tell_lines(rt: &impl Print, position: &Position, virtual_grains: i64) -> io::
     )
 }
 
+// The position's part in the uplift pool, in cents: its reserve and make-whole lines.
+fn uplift(position: &Position) -> i64 {
+    to_cents(reserve(&position.reserve))
+        .saturating_add(to_cents(day_ahead_make_whole(position)))
+        .saturating_add(to_cents(real_time_make_whole(position)))
+}
+
+// Three owners, who withdrew 49,200, 24,600 and 100 kWh.
+fn withdrawals() -> Withdrawals {
+    let mut quantities = [0; 32];
+    quantities[0] = 49_200;
+    quantities[1] = 24_600;
+    quantities[2] = 100;
+    Withdrawals {
+        quantities,
+        owners: 3,
+    }
+}
+
+fn tell_shares<B: Basis>(rt: &impl Print, amount: i64, basis: &B, name: &str) -> io::Result<()> {
+    match Pool::strike(amount) {
+        Some(pool) => {
+            let shares = share(pool, basis, &withdrawals());
+            let [first, second, third, ..] = shares.owners;
+            let operator = shares.operator;
+            let sum = first
+                .saturating_add(second)
+                .saturating_add(third)
+                .saturating_add(operator);
+            println!(
+                rt,
+                "shared by {name}: {first}, {second}, {third}, operator {operator}, together {sum}"
+            )
+        }
+        None => println!(rt, "no pool holds {amount} cents"),
+    }
+}
+
+fn tell_uplift(rt: &impl Print, position: &Position) -> io::Result<()> {
+    let amount = uplift(position);
+    println!(
+        rt,
+        "uplift pool: {amount} cents, over three owners who withdrew 49200, 24600 and 100 kWh"
+    )?;
+    tell_shares(rt, amount, &Withdrawn, "withdrawn quantity")?;
+    let mut shares = [0; 32];
+    shares[0] = 1;
+    shares[1] = 1;
+    shares[2] = 1;
+    tell_shares(
+        rt,
+        amount,
+        &FixedShares { shares },
+        "fixed shares of 1, 1 and 1",
+    )?;
+    let mut exempt = [false; 32];
+    exempt[0] = true;
+    let basis = Exemption {
+        exempt,
+        below: Withdrawn,
+    };
+    tell_shares(
+        rt,
+        amount,
+        &basis,
+        "withdrawn quantity with the first owner exempt",
+    )
+}
+
 fn tell_refusal(rt: &impl Print, refusal: Refusal) -> io::Result<()> {
     match refusal {
         Refusal::Figure(fault) => println!(rt, "refused: {fault}"),
@@ -192,9 +271,10 @@ fn settle(rt: &impl Print) -> io::Result<()> {
         Err(refusal) => return tell_refusal(rt, refusal),
     };
     match no_virtual_trade() {
-        Ok(virtual_grains) => tell_lines(rt, &position, virtual_grains),
-        Err(refusal) => tell_refusal(rt, refusal),
+        Ok(virtual_grains) => tell_lines(rt, &position, virtual_grains)?,
+        Err(refusal) => return tell_refusal(rt, refusal),
     }
+    tell_uplift(rt, &position)
 }
 
 // What is refused: rows that are out of step, and a reading that no meter can give.
@@ -214,7 +294,7 @@ fn tell_bad_input(rt: &impl Print) -> io::Result<()> {
 fn main(rt: LibcRuntime) -> io::Result<()> {
     settle(&rt)?;
     tell_bad_input(&rt)?;
-    let count = worked::examples();
+    let count = examples();
     println!(
         rt,
         "worked examples that are proved of the definitions: {count}"
