@@ -1,0 +1,4 @@
+pub mod Deciding
+pub mod Finding
+pub mod Pasting
+pub mod Sums
