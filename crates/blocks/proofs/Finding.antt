@@ -26,6 +26,15 @@ module _ (p : ℕ → Bool) (a : ℕ) where
       let none : (leb a n && p n) ≡ false = and-right (leb a n) (p n) here in
       rw add-one (rw (before, none))
 
+  -- nothing is found where nothing is picked
+  pub first-in-nowhere : (n : ℕ) → ((k : ℕ) → k < n → p k ≡ false) → first-in p a n ≡ None
+  unfolding first-in
+  first-in-nowhere zero none = refl
+  first-in-nowhere (suc n) none =
+      let before : first-in p a n ≡ None = first-in-nowhere n (λ k h. none k (omega arith)) in
+      let here : (leb a n && p n) ≡ false = and-right (leb a n) (p n) (none n (omega arith)) in
+      rw (before, here)
+
   first-in-suc : (n : ℕ) → first-in p a n ≡ None → a ≤ n → p n ≡ true → first-in p a (suc n) ≡ Some n
   unfolding first-in
   first-in-suc n before h here = let high : leb a n ≡ true = le-leb a n h in rw (before, high, here)

@@ -1,4 +1,6 @@
 pub mod Deciding
+pub mod Encoding
 pub mod Finding
 pub mod Pasting
+pub mod RoundTrip
 pub mod Sums

@@ -1,7 +1,9 @@
 pub mod Faults
 pub mod Firsts
 pub mod Kinds
+pub mod Lone
 pub mod Records
+pub mod Rules
 pub mod Settings
 pub mod Verdicts
 pub mod Words

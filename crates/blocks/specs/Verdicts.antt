@@ -22,11 +22,10 @@ use Rattle.blocks.specs.declared.fault.Rule.the-variants as rules
 use Rattle.blocks.specs.declared.fault.BlockFault.{BlockFault}
 use Rattle.blocks.specs.declared.kind.Kind.{Kind}
 use Rattle.blocks.specs.declared.kind.Kind.the-variants.{Header, Resource, Virtual}
-use Rattle.blocks.specs.declared.kind.Schedule.{Schedule}
-use Rattle.blocks.specs.declared.kind.Schedule.the-variants.{Energy, Reserve}
 use Rattle.blocks.specs.declared.limits.Limits.{Limits}
 use Rattle.blocks.specs.Firsts.{Verdict, first-in, first-of, if-found, unless}
 use Rattle.blocks.specs.Kinds.{figure-at, is-unused, schedule-at, side-fits}
+use Rattle.blocks.specs.Rules.{past}
 use Rattle.blocks.specs.Records.{Opened, by-kind, fault-at, record-of}
 use Rattle.blocks.specs.Words.{byte-at, check-of, word-at}
 
@@ -133,17 +132,18 @@ abbrev pub last-end : List ℕ → ℕ → ℕ → ℤ
 last-end part from zero = pos 0
 last-end part from (suc k) = row-of part from k .end
 
-abbrev pub ladder-end : List ℕ → Schedule → ℤ
-ladder-end part Energy = last-end part 68 (energy-rows part)
-ladder-end part Reserve = last-end part 108 (reserve-rows part)
+abbrev pub energy-end : List ℕ → ℤ
+energy-end part = last-end part 68 (energy-rows part)
 
-abbrev pub passes : List ℕ → Option Schedule → ℤ → Bool
-passes part None value = false
-passes part (Some schedule) value = ltZ (ladder-end part schedule) value
+abbrev pub reserve-end : List ℕ → ℤ
+reserve-end part = last-end part 108 (reserve-rows part)
+
+abbrev pub resource-schedule-verdict : List ℕ → ℕ → Verdict BlockFault
+resource-schedule-verdict part block =
+    if-found (first-word (λ i. past (energy-end part) (reserve-end part) (schedule-at i) (word-at part i))) (fault-at rules.Schedule block)
 
 abbrev pub schedule-verdict : Opened → Verdict BlockFault
-schedule-verdict r =
-    for-resource (r .kind) (if-found (first-word (λ i. passes (r .part) (schedule-at i) (word-at (r .part) i))) (fault-at rules.Schedule (r .block)))
+schedule-verdict r = for-resource (r .kind) (resource-schedule-verdict (r .part) (r .block))
 
 -- Each unused word is 0.
 abbrev pub not-zero : ℤ → Bool
