@@ -11,6 +11,7 @@ use Rattle.std.specs.declared.result.Result.the-variants.{Ok, Err}
 use Rattle.blocks.specs.declared.block.BlockRecord.{BlockRecord}
 use Rattle.blocks.specs.declared.fault.FileFault.{FileFault}
 use Rattle.blocks.specs.declared.fault.FileFault.the-variants.{Length, Block}
+use Rattle.blocks.specs.declared.limits.Limits.{Limits}
 use Rattle.blocks.specs.Firsts.{Verdict, first-of, lifted, unless}
 use Rattle.blocks.specs.Settings.{alone}
 use Rattle.blocks.specs.Verdicts.{block-verdict, body-verdict}
@@ -45,9 +46,18 @@ abbrev pub if-sound : {X : Type 0} → Verdict FileFault → X → X → X
 if-sound (Ok u) sound faulty = sound
 if-sound (Err e) sound faulty = faulty
 
--- Reading a lone block: its length, its check and its rules decide.
+-- A block where it stands: its length, its check and its rules decide.
+abbrev pub part-verdict : Limits → ℕ → List ℕ → Verdict FileFault
+part-verdict limits block part = first-of (unless (eqb (length part) 512) Length) (lifted Block (block-verdict limits block part))
+
+-- What an answer says of faults.
+abbrev pub verdict-in : {X : Type 0} → Result X FileFault → Verdict FileFault
+verdict-in (Ok x) = Ok tt
+verdict-in (Err e) = Err e
+
+-- Reading a lone block.
 abbrev pub lone-verdict : List ℕ → Verdict FileFault
-lone-verdict part = first-of (unless (eqb (length part) 512) Length) (lifted Block (block-verdict alone 0 part))
+lone-verdict part = part-verdict alone 0 part
 
 abbrev pub read-of : List ℕ → Result BlockRecord FileFault
 read-of part = answered (lone-verdict part) (decoded part)

@@ -11,9 +11,9 @@ pub struct Limits {
     pub positions: bool,
     pub hour_from: u8,
     pub hour_to: u8,
-    pub owners_from: u8,
-    pub owners_to: u8,
-    pub places: u8,
+    pub owners_from: u32,
+    pub owners_to: u32,
+    pub places: u32,
     pub count_from: u32,
     pub count_to: u32,
     pub number_from: u32,
@@ -39,7 +39,7 @@ impl Limits {
     }
 
     /// The first block of a file, for a day of so many owners, with so many blocks after it.
-    pub fn first(owners: u8, following: u32) -> Limits
+    pub fn first(owners: u32, following: u32) -> Limits
         ensures { λ r. ⌜ r ≡ first owners following ⌝ }
     {
         Limits {
@@ -57,7 +57,7 @@ impl Limits {
     }
 
     /// A later block of a file, in the header's hour, with a position number from some number on.
-    pub fn later(hour: u8, owners: u8, number_from: u32) -> Limits
+    pub fn later(hour: u8, owners: u32, number_from: u32) -> Limits
         ensures { λ r. ⌜ r ≡ later hour owners «number_from» ⌝ }
     {
         Limits {

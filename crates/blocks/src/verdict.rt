@@ -96,7 +96,7 @@ fn check_hour(record: &Record, limits: &Limits) -> Result<(), BlockFault>
 }
 
 /// Whether a header may tell this number of owners, or another block have this place.
-fn place_fits(limits: &Limits, kind: Kind, place: u8) -> bool
+fn place_fits(limits: &Limits, kind: Kind, place: u32) -> bool
     ensures { λ r. ⌜ r ≡ place-fits (now (limits .entry)) kind place ⌝ }
 {
     match kind {
@@ -110,7 +110,7 @@ fn check_place(record: &Record, limits: &Limits) -> Result<(), BlockFault>
     requires { ⌜ length (opened (now «record») .part) ≡ 512 ⌝ }
     ensures { λ r. ⌜ r ≡ place-verdict (now (limits .entry)) (opened (now («record» .entry))) ⌝ }
 {
-    if place_fits(limits, record.kind(), record.part()[3]) {
+    if place_fits(limits, record.kind(), u32::from(record.part()[3])) {
         Ok(())
     } else {
         Err(BlockFault {
