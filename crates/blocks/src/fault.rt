@@ -34,7 +34,7 @@ pub enum FileFault {
 }
 
 /// The layer that a fault belongs to.
-#[derive(Clone, Copy, Debug, PartialEq, Eq)]
+#[derive(Clone, Copy)]
 pub enum Layer {
     Block,
     File,
@@ -42,7 +42,7 @@ pub enum Layer {
 }
 
 /// What a fault tells: its number, its layer, and its block and word, which are 0 where it has none.
-#[derive(Clone, Copy, Debug, PartialEq, Eq)]
+#[derive(Clone, Copy)]
 pub struct Refusal {
     pub number: u32,
     pub layer: Layer,

@@ -5,7 +5,7 @@ ghost use mathlib.Core.Path.{_≡_};
 use market::range::Figure;
 
 /// What a block records.
-#[derive(Clone, Copy, Debug, PartialEq, Eq)]
+#[derive(Clone, Copy)]
 pub enum Kind {
     Header,
     Resource,
@@ -13,7 +13,7 @@ pub enum Kind {
 }
 
 /// The ladder that a schedule may not pass.
-#[derive(Clone, Copy, Debug, PartialEq, Eq)]
+#[derive(Clone, Copy)]
 pub(crate) enum Schedule {
     Energy,
     Reserve,

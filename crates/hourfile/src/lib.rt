@@ -1,0 +1,3 @@
+//! The blocks of an hour file.
+
+pub mod file;
