@@ -1,4 +1,4 @@
--- A loop that stops at the first fault. 
+-- A loop that stops at the first fault.
 use Prim.Native.Nat.{ℕ, zero, suc, _+_, _≤_, _<_}
 use mathlib.Core.Path.{_≡_, refl, sym, ap, _∙_}
 use mathlib.Core.Logic.{⊎-elim}

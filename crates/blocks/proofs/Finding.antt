@@ -1,4 +1,4 @@
--- A loop that looks for the first. 
+-- A loop that looks for the first.
 use Prim.Native.Nat.{ℕ, zero, suc, _+_, _≤_, _<_}
 use mathlib.Core.Bool.{Bool, true, false, cond, _&&_}
 use mathlib.Core.Path.{_≡_, refl, sym, ap, _∙_}
@@ -52,10 +52,10 @@ module _ (p : ℕ → Bool) (a : ℕ) where
   none-step n below true e = let both = and-parts (leb a n) (p n) e in (leb-true a n (both .0), omega arith, both .1, below)
   none-step n below false e =
       λ k h l.
-          ⊎-elim
-          (λ lt. below k h lt)
-          (λ ge. let same : n ≡ k = omega arith in rw (← same) (⊎-elim (λ low. absurd (omega (arith, leb-false a n low))) (λ no. no) (and-cases (leb a n) (p n) e)))
-          (cases-lt k n)
+      ⊎-elim
+      (λ lt. below k h lt)
+      (λ ge. let same : n ≡ k = omega arith in rw (← same) (⊎-elim (λ low. absurd (omega (arith, leb-false a n low))) (λ no. no) (and-cases (leb a n) (p n) e)))
+      (cases-lt k n)
 
   found-step : (n : ℕ) (o : Option ℕ) → Found-first p a n o → Found-first p a (suc n) (or-else o (cond (leb a n && p n) (Some n) None))
   found-step n (Some i) f = (f .0, omega (arith, f .1), f .2, f .3)
@@ -65,4 +65,3 @@ module _ (p : ℕ → Bool) (a : ℕ) where
   unfolding first-in
   found-first zero = λ k h l. absurd (omega arith)
   found-first (suc n) = found-step n (first-in p a n) (found-first n)
-

@@ -1,4 +1,4 @@
--- The check sum, one byte on. 
+-- The check sum, one byte on.
 use Prim.Native.Nat.{ℕ, zero, suc, _+_, _*_, _≤_, _<_}
 use mathlib.Core.List.{List, _++_}
 use mathlib.Core.Path.{_≡_, refl}

@@ -1,6 +1,6 @@
 //! The kinds of a block and the side letters, and what the words of each kind hold.
 
-ghost use Rattle.blocks.specs.Kinds.{figure-at, interval-figure, interval-schedule, is-unused, kind-of, resource-figure, schedule-at, side-fits};
+ghost use Rattle.blocks.specs.Kinds.{figure-at, interval-figure, interval-schedule, resource-figure, schedule-at, side-fits};
 ghost use mathlib.Core.Path.{_≡_};
 use market::range::Figure;
 
@@ -20,18 +20,6 @@ pub(crate) enum Schedule {
 }
 
 impl Kind {
-    /// The kind that a letter names.
-    pub fn from_letter(letter: char) -> Option<Kind>
-        ensures { λ r. ⌜ r ≡ kind-of letter ⌝ }
-    {
-        match letter {
-            'H' => Some(Kind::Header),
-            'R' => Some(Kind::Resource),
-            'V' => Some(Kind::Virtual),
-            _ => None,
-        }
-    }
-
     /// Whether a block of this kind may have the side letter.
     pub(crate) fn takes_side(self, letter: char) -> bool
         ensures { λ r. ⌜ r ≡ side-fits self letter ⌝ }

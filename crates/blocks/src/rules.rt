@@ -87,7 +87,8 @@ impl UnusedIsZero {
             Kind::Header => i >= 15,
             Kind::Virtual => i >= 3,
             Kind::Resource => {
-                (i >= 68 + 2 * self.energy_rows as usize && i < 108) || i >= 108 + 2 * self.reserve_rows as usize
+                (i >= 68 + 2 * self.energy_rows as usize && i < 108)
+                    || i >= 108 + 2 * self.reserve_rows as usize
             }
         }
     }

@@ -127,8 +127,10 @@ fn number_fits(limits: &Limits, kind: Kind, number: i32) -> bool
 {
     let number = i64::from(number);
     match kind {
-        Kind::Header => i64::from(limits.count_from) <= number && number <= i64::from(limits.count_to),
-        Kind::Resource | Kind::Virtual => i64::from(limits.number_from) <= number && number <= 65_535,
+        Kind::Header => i64::from(limits.count_from) <= number
+            && number <= i64::from(limits.count_to),
+        Kind::Resource | Kind::Virtual => i64::from(limits.number_from) <= number
+            && number <= 65_535,
     }
 }
 
@@ -166,7 +168,11 @@ fn check_ranges(record: &Record) -> Result<(), BlockFault>
     let rule = InRange {
         kind: record.kind(),
     };
-    fault_at(first_breach(&rule, record.part()), Rule::Range, record.block())
+    fault_at(
+        first_breach(&rule, record.part()),
+        Rule::Range,
+        record.block(),
+    )
 }
 
 /// The number of rows that a word counts.
@@ -233,7 +239,13 @@ fn first_bad_row(kind: LadderKind, part: &[u8], from: usize, count: usize) -> Op
 }
 
 /// The rows from a word on make a ladder.
-fn check_ladder(kind: LadderKind, part: &[u8], block: usize, from: usize, count: usize) -> Result<(), BlockFault>
+fn check_ladder(
+    kind: LadderKind,
+    part: &[u8],
+    block: usize,
+    from: usize,
+    count: usize,
+) -> Result<(), BlockFault>
     requires { ⌜ length (now part) ≡ 512 ⌝ ∗ ⌜ count ≤ most-rows kind ⌝ ∗ ⌜ from ≤ 108 ⌝ }
     ensures { λ r. ⌜ r ≡ ladder-verdict kind (now (part .entry)) block from count ⌝ }
 {
@@ -276,8 +288,20 @@ fn check_resource_rows(part: &[u8], block: usize) -> Result<(), BlockFault>
     let side = char::from(part[1]);
     check_count(part, 6, most_energy_rows(side), block)?;
     check_count(part, 7, 5, block)?;
-    check_ladder(energy_kind(side), part, block, 68, row_count(part, 6) as usize)?;
-    check_ladder(LadderKind::Reserve, part, block, 108, row_count(part, 7) as usize)
+    check_ladder(
+        energy_kind(side),
+        part,
+        block,
+        68,
+        row_count(part, 6) as usize,
+    )?;
+    check_ladder(
+        LadderKind::Reserve,
+        part,
+        block,
+        108,
+        row_count(part, 7) as usize,
+    )
 }
 
 /// The rows.

@@ -154,7 +154,11 @@ fn lower_number_and_lower_word_win() -> Result<(), Fail> {
     expect(with(resource(b'X', 32, 0), 10, 8_401), 7, 0)?;
     expect(with(resource(b'N', 32, 0), 10, 8_401), 9, 0)?;
     expect(with(with(resource(b'N', 0, 1), 126, 1), 10, 8_401), 11, 10)?;
-    expect(with(with(resource(b'N', 0, 1), 15, 8_401), 10, 8_401), 11, 10)
+    expect(
+        with(with(resource(b'N', 0, 1), 15, 8_401), 10, 8_401),
+        11,
+        10,
+    )
 }
 
 #[test]

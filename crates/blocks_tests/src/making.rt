@@ -1,7 +1,7 @@
 // Records for the tests, and what is said of them.
 use blocks::block::BlockRecord;
 
-pub fn header(hour: u8, owners: u8, following: i32) -> BlockRecord {
+pub(crate) fn header(hour: u8, owners: u8, following: i32) -> BlockRecord {
     let words = no_words();
     with(
         BlockRecord {
@@ -13,7 +13,7 @@ pub fn header(hour: u8, owners: u8, following: i32) -> BlockRecord {
     )
 }
 
-pub fn resource(side: u8, place: u8, number: i32) -> BlockRecord {
+pub(crate) fn resource(side: u8, place: u8, number: i32) -> BlockRecord {
     let words = no_words();
     with(
         BlockRecord {
@@ -25,7 +25,7 @@ pub fn resource(side: u8, place: u8, number: i32) -> BlockRecord {
     )
 }
 
-pub fn virtual_position(side: u8, place: u8, number: i32) -> BlockRecord {
+pub(crate) fn virtual_position(side: u8, place: u8, number: i32) -> BlockRecord {
     let words = no_words();
     with(
         BlockRecord {
@@ -42,7 +42,7 @@ fn no_words() -> [i32; 126] {
 }
 
 /// The record with one word, of words 1 to 126, at another value.
-pub fn with(record: BlockRecord, word: usize, value: i32) -> BlockRecord {
+pub(crate) fn with(record: BlockRecord, word: usize, value: i32) -> BlockRecord {
     let head = record.head;
     let mut words = record.words;
     if word >= 1 && word <= 126 {
@@ -52,7 +52,7 @@ pub fn with(record: BlockRecord, word: usize, value: i32) -> BlockRecord {
 }
 
 /// The record with one energy row more, of those that stand from word 68 on.
-pub fn with_row(record: BlockRecord, row: usize, price: i32, end: i32) -> BlockRecord {
+pub(crate) fn with_row(record: BlockRecord, row: usize, price: i32, end: i32) -> BlockRecord {
     if row < 20 {
         with(with(record, 68 + 2 * row, price), 69 + 2 * row, end)
     } else {
@@ -61,19 +61,19 @@ pub fn with_row(record: BlockRecord, row: usize, price: i32, end: i32) -> BlockR
 }
 
 /// A buffer of one block.
-pub fn buffer() -> [u8; 512] {
+pub(crate) fn buffer() -> [u8; 512] {
     [0; 512]
 }
 
 /// The number, block and word of a refusal; all 0 where there is none.
 #[derive(Clone, Copy, Debug, PartialEq)]
-pub struct Told {
+pub(crate) struct Told {
     pub number: u32,
     pub block: usize,
     pub word: usize,
 }
 
-pub fn refused(number: u32, block: usize, word: usize) -> Told {
+pub(crate) fn refused(number: u32, block: usize, word: usize) -> Told {
     Told {
         number,
         block,

@@ -1,4 +1,7 @@
 // Settles one position of an hour from beginning to end, and prints the steps.
+mod hour;
+
+use hour::tell_hour;
 use ladders::ladder::economic_point;
 use ladders::ladder::profit;
 use ladders::offer::Offer;
@@ -294,6 +297,7 @@ fn tell_bad_input(rt: &impl Print) -> io::Result<()> {
 fn main(rt: LibcRuntime) -> io::Result<()> {
     settle(&rt)?;
     tell_bad_input(&rt)?;
+    tell_hour(&rt)?;
     let count = examples();
     println!(
         rt,
