@@ -4,17 +4,18 @@ use mathlib.Core.List.{List, [], _∷_, _++_}
 use mathlib.Core.Path.{_≡_}
 use lib.Dec.{eqb}
 use lib.IntN.{ℤ, pos}
-use lib.ListN.{length, take, drop}
+use lib.ListN.{getD, length, take, drop}
 use Rattle.std.specs.Joined.{joined}
 use Rattle.std.specs.declared.result.Result.{Result}
 use Rattle.std.specs.declared.result.Result.the-variants.{Ok, Err}
 use Rattle.blocks.specs.declared.block.BlockRecord.{BlockRecord}
+use Rattle.blocks.specs.declared.fault.BlockFault.{BlockFault}
 use Rattle.blocks.specs.declared.fault.FileFault.{FileFault}
 use Rattle.blocks.specs.declared.fault.FileFault.the-variants.{Length, Block}
 use Rattle.blocks.specs.declared.limits.Limits.{Limits}
-use Rattle.blocks.specs.Firsts.{Verdict, first-of, lifted, unless}
+use Rattle.blocks.specs.Firsts.{Decides-first, Verdict, first-of, lifted, unless}
 use Rattle.blocks.specs.Settings.{alone}
-use Rattle.blocks.specs.Verdicts.{block-verdict, body-verdict}
+use Rattle.blocks.specs.Verdicts.{block-verdict, body-verdict, rule-verdicts}
 use Rattle.blocks.specs.Words.{check-of, word-at, word-bytes}
 
 -- The bytes of words, four each, and the first words that bytes hold.
@@ -49,6 +50,11 @@ if-sound (Err e) sound faulty = faulty
 -- A block where it stands: its length, its check and its rules decide.
 abbrev pub part-verdict : Limits → ℕ → List ℕ → Verdict FileFault
 part-verdict limits block part = first-of (unless (eqb (length part) 512) Length) (lifted Block (block-verdict limits block part))
+
+-- The law of it: a block's fault is that of the first rule that it breaks.
+abbrev pub Lowest-of : Limits → ℕ → List ℕ → Verdict FileFault → Type 0
+Lowest-of limits block part verdict =
+    (fault : BlockFault) → verdict ≡ Err (Block fault) → Decides-first (λ n. getD (rule-verdicts limits block part) n (Ok tt)) 9 fault
 
 -- What an answer says of faults.
 abbrev pub verdict-in : {X : Type 0} → Result X FileFault → Verdict FileFault

@@ -2,10 +2,10 @@
 use Prim.Native.Nat.{ℕ, zero, suc, _+_, _-_, _*_}
 use mathlib.Core.Path.{_≡_}
 use mathlib.Core.Bool.{Bool, true, false, cond, not, _&&_, _||_}
-use mathlib.Core.List.{List, [], map}
+use mathlib.Core.List.{List, [], _∷_, map}
 use lib.Dec.{eqb, leb, ltb}
 use lib.IntN.{ℤ, pos, natAbs}
-use lib.ListN.{length}
+use lib.ListN.{getD, length}
 use lib.Signed.{leZ, ltZ}
 use Rattle.std.specs.Iters.{counting}
 use Rattle.std.specs.declared.option.Option.{Option}
@@ -23,7 +23,7 @@ use Rattle.blocks.specs.declared.fault.BlockFault.{BlockFault}
 use Rattle.blocks.specs.declared.kind.Kind.{Kind}
 use Rattle.blocks.specs.declared.kind.Kind.the-variants.{Header, Resource, Virtual}
 use Rattle.blocks.specs.declared.limits.Limits.{Limits}
-use Rattle.blocks.specs.Firsts.{Verdict, first-in, first-of, if-found, unless}
+use Rattle.blocks.specs.Firsts.{Decides-first, Verdict, first-in, first-of, if-found, unless}
 use Rattle.blocks.specs.Kinds.{figure-at, is-unused, schedule-at, side-fits}
 use Rattle.blocks.specs.Rules.{past}
 use Rattle.blocks.specs.Records.{Opened, by-kind, fault-at, record-of}
@@ -176,3 +176,23 @@ body-verdict limits block part = on-opened (record-of part block) (record-verdic
 
 abbrev pub block-verdict : Limits → ℕ → List ℕ → Verdict BlockFault
 block-verdict limits block part = first-of (check-verdict block part) (body-verdict limits block part)
+
+-- ---- the law of the order
+-- What each rule says of a block by itself, in the order of their numbers, 6 to 14.
+abbrev pub rule-verdicts : Limits → ℕ → List ℕ → List (Verdict BlockFault)
+rule-verdicts limits block part =
+    check-verdict block part
+    ∷ (on-opened (record-of part block) (kind-verdict limits)
+    ∷ (on-opened (record-of part block) (hour-verdict limits)
+    ∷ (on-opened (record-of part block) (place-verdict limits)
+    ∷ (on-opened (record-of part block) (number-verdict limits)
+    ∷ (on-opened (record-of part block) range-verdict
+    ∷ (on-opened (record-of part block) rows-verdict
+    ∷ (on-opened (record-of part block) schedule-verdict
+    ∷ (on-opened (record-of part block) unused-verdict
+    ∷ []))))))))
+
+-- A block's fault is that of the first rule that it breaks.
+abbrev pub Lowest-decides : Limits → ℕ → List ℕ → Verdict BlockFault → Type 0
+Lowest-decides limits block part verdict =
+    (fault : BlockFault) → verdict ≡ Err fault → Decides-first (λ n. getD (rule-verdicts limits block part) n (Ok tt)) 9 fault
