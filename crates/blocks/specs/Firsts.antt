@@ -50,6 +50,9 @@ abbrev pub Found-first : (ℕ → Bool) → ℕ → ℕ → Option ℕ → Type 
 Found-first picks from to None = (k : ℕ) → from ≤ k → k < to → picks k ≡ false
 Found-first picks from to (Some i) = (from ≤ i) × (i < to) × (picks i ≡ true) × ((k : ℕ) → from ≤ k → k < i → picks k ≡ false)
 
+abbrev pub Finds-first : Type 0
+Finds-first = (picks : ℕ → Bool) (from to : ℕ) → Found-first picks from to (first-in picks from to)
+
 -- Of the first n, one has the fault, and none before it has any.
 abbrev pub Decides-first : {E : Type 0} → (ℕ → Verdict E) → ℕ → E → Type 0
 Decides-first verdict n e = (i : ℕ) × (i < n) × (verdict i ≡ Err e) × ((k : ℕ) → k < i → verdict k ≡ Ok tt)

@@ -6,6 +6,7 @@ ghost use Rattle.std.specs.shelf.Lists.{All};
 ghost use lib.IntN.{pos};
 ghost use mir.Syntax.{w32};
 ghost use mir.Val.{SFits};
+ghost use Rattle.blocks.specs.Firsts.{Finds-first};
 ghost use Rattle.blocks.specs.Lone.{Lowest-of, bytes-of, decoded, encoded, part-verdict, read-of, verdict-in, words-of, write-of, written};
 ghost use Rattle.blocks.specs.Records.{opened, record-of};
 ghost use Rattle.std.specs.Results.{isOk};
@@ -115,10 +116,12 @@ fn empty_block() -> [u8; 512]
     [0; 512]
 }
 
-/// Opens a block of a file: its record, or its first fault by the limits of where it stands.
+/// Opens a block of a file: its record, or its first fault by the limits of where it stands. The fault is that of the lowest-numbered
+/// rule that the block breaks, and a word that a rule looks for is the lowest one.
 pub fn open<'a>(part: &'a [u8], block: usize, limits: &Limits) -> Result<Record<'a>, FileFault>
     ensures verdict { λ r. ⌜ verdict-in r ≡ part-verdict (now (limits .entry)) block (now (part .entry)) ⌝ }
     ensures lowest { λ r. ⌜ Lowest-of (now (limits .entry)) block (now (part .entry)) (verdict-in r) ⌝ }
+    ensures words { λ _. ⌜ Finds-first ⌝ }
     ensures opens { λ r. ⌜ made r (λ rec. record-of (now (part .entry)) block ≡ Ok (opened rec)) ⌝ }
 {
     if part.len() != BLOCK {
