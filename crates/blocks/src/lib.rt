@@ -1,5 +1,7 @@
 //! The block format: a block of 512 bytes, checked, read and written.
 
+#![tactic(auto)]
+
 pub mod block;
 mod check;
 pub mod fault;

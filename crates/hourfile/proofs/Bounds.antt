@@ -14,7 +14,7 @@ use Rattle.ladders.specs.declared.rows.LadderKind.TheVariants.{Offer, Bid, Reser
 use Rattle.ladders.specs.declared.rows.Row.{Row}
 use Rattle.ladders.proofs.Best.{point_law}
 use Rattle.ladders.proofs.Integers.{product_within, short_of_larger, sum_within}
-use Rattle.ladders.proofs.Lawfuls.{bid_lawful, offer_lawful}
+use Rattle.ladders.specs.Lawfuls.{bid_lawful, offer_lawful}
 use Rattle.ladders.proofs.Profits.{profit_gap}
 use Rattle.market.specs.Amounts.{balancing, day_ahead_energy, day_ahead_make_whole, energy_payment, imbalance, real_time_make_whole, reserve, reserve_change, reserve_payment, spread, total, virtual_trade}
 use Rattle.market.specs.Figures.{InRange}

@@ -1,5 +1,7 @@
 //! The blocks of an hour file, and what they come to.
 
+#![tactic(auto)]
+
 pub mod file;
 pub mod hour;
 pub mod hour_lines;

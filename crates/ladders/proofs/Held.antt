@@ -5,7 +5,7 @@ use Rattle.ladders.specs.Rows.{offer_ladder, bid_ladder}
 use Rattle.ladders.specs.declared.bid.Bid.{Bid}
 use Rattle.ladders.specs.declared.offer.Offer.{Offer}
 use Rattle.ladders.specs.declared.offer.ReserveOffer.{ReserveOffer}
-use Rattle.ladders.proofs.Lawfuls.{offer_lawful, bid_lawful}
+use Rattle.ladders.specs.Lawfuls.{offer_lawful, bid_lawful}
 
 pub offer_held : (offer : Offer) → Lawful (offer_ladder (offer_rows offer))
 offer_held offer = offer_lawful (offer_rows offer) offer.good

@@ -1,5 +1,4 @@
 pub mod Best
 pub mod Held
 pub mod Integers
-pub mod Lawfuls
 pub mod Profits

@@ -1,4 +1,5 @@
 pub mod Ladder
+pub mod Lawfuls
 pub mod Offers
 pub mod RowLists
 pub mod Rows

@@ -3,7 +3,7 @@
 ghost use Rattle.ladders.specs.Rows.{AllGood, Made, bid_ladder};
 ghost use Rattle.ladders.specs.RowLists.{listed};
 ghost use Rattle.ladders.specs.declared.rows.LadderKind.TheVariants.{Bid as bid_kind};
-ghost use Rattle.std.proofs.Common.{rules, arith};
+ghost use Rattle.ladders.specs.Lawfuls.{bid_lawful};
 
 use crate::ladder::Ladder;
 use crate::row_list::RowList;
@@ -30,7 +30,7 @@ impl Bid {
 impl Ladder for Bid {
     ghost means = { λ b. bid_ladder (listed b.list) };
 
-    ghost lawful = { first_of (Prim.search rules, Prim.grind (arith, Self.row.coded.inj)) };
+    ghost lawful = { λ b. bid_lawful (listed b.list) b.good };
 
     fn rows(&self) -> usize {
         self.list.len()

@@ -37,8 +37,8 @@ fn row_profit(gain: i32, part: u64) -> i64
 /// What a quantity, in twelfths of a kWh in one interval, earns at a price: over all rows, the gain times the part of the quantity
 /// inside the row.
 pub fn profit<L: Ladder>(ladder: &L, price: i32, quantity: u64) -> i64
-    ensures value { result ≡ profit_on (means ladder.now) price quantity }
-    ensures law { ProfitLaw (means ladder.now) price }
+    ensures value { result ≡ profit_on (L.means ladder.now) price quantity }
+    ensures law { ProfitLaw (L.means ladder.now) price }
     ensures bound { unsigned_abs result ≤ 40000000000 }
 {
     let mut profit: i64 = 0;
@@ -53,8 +53,8 @@ pub fn profit<L: Ladder>(ladder: &L, price: i32, quantity: u64) -> i64
 
 /// The economic point at a price, in tenths of a MW: the end of the last row with gain 0 or more, or 0 if there is none.
 pub fn economic_point<L: Ladder>(ladder: &L, price: i32) -> u32
-    ensures value { result ≡ economic_point (means ladder.now) price }
-    ensures law { PointLaw (means ladder.now) price result }
+    ensures value { result ≡ economic_point (L.means ladder.now) price }
+    ensures law { PointLaw (L.means ladder.now) price result }
     ensures bound { result ≤ 1000 }
 {
     let mut point = 0;
@@ -68,9 +68,9 @@ pub fn economic_point<L: Ladder>(ladder: &L, price: i32) -> u32
 
 /// The profit at the economic point, which no quantity exceeds.
 pub fn best_profit<L: Ladder>(ladder: &L, price: i32) -> i64
-    ensures value { result ≡ best_profit (means ladder.now) price }
-    ensures most { (quantity : ℕ) → profit_on (means ladder.now) price quantity ≤ℤ result }
-    ensures gap { (quantity : ℕ) → unsigned_abs (result -ℤ profit_on (means ladder.now) price quantity) ≤ 40000000000 }
+    ensures value { result ≡ best_profit (L.means ladder.now) price }
+    ensures most { (quantity : ℕ) → profit_on (L.means ladder.now) price quantity ≤ℤ result }
+    ensures gap { (quantity : ℕ) → unsigned_abs (result -ℤ profit_on (L.means ladder.now) price quantity) ≤ 40000000000 }
     ensures bound { unsigned_abs result ≤ 40000000000 }
 {
     let point = economic_point(ladder, price);
@@ -80,7 +80,7 @@ pub fn best_profit<L: Ladder>(ladder: &L, price: i32) -> i64
 /// The lost profit of a schedule, in tenths of a MW: the profit at the economic point less the profit at the schedule. It is never
 /// negative.
 pub fn lost_profit<L: Ladder>(ladder: &L, price: i32, schedule: u32) -> i64
-    ensures value { result ≡ lost_profit (means ladder.now) price schedule }
+    ensures value { result ≡ lost_profit (L.means ladder.now) price schedule }
     ensures sound { pos 0 ≤ℤ result }
     ensures bound { unsigned_abs result ≤ 40000000000 }
 {

@@ -1,5 +1,7 @@
 //! Ladders: what a quantity earns on one, where it earns most, and the offers and bids that are ladders.
 
+#![tactic(auto)]
+
 pub mod bid;
 pub mod ladder;
 pub mod offer;

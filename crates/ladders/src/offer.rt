@@ -4,7 +4,7 @@ ghost use Rattle.std.specs.Prelude.{◌≤◌, length};
 ghost use Rattle.ladders.specs.Rows.{AllGood, Made, offer_ladder};
 ghost use Rattle.ladders.specs.RowLists.{listed};
 ghost use Rattle.ladders.specs.declared.rows.LadderKind.TheVariants.{Offer as offer_kind, Reserve as reserve_kind};
-ghost use Rattle.std.proofs.Common.{rules, arith};
+ghost use Rattle.ladders.specs.Lawfuls.{offer_lawful};
 
 use crate::ladder::Ladder;
 use crate::row_list::RowList;
@@ -51,7 +51,7 @@ impl ReserveOffer {
 impl Ladder for Offer {
     ghost means = { λ o. offer_ladder (listed o.list) };
 
-    ghost lawful = { first_of (Prim.search rules, Prim.grind (arith, Self.row.coded.inj)) };
+    ghost lawful = { λ o. offer_lawful (listed o.list) o.good };
 
     fn rows(&self) -> usize {
         self.list.len()
@@ -73,7 +73,7 @@ impl Ladder for Offer {
 impl Ladder for ReserveOffer {
     ghost means = { λ o. offer_ladder (listed o.offer.list) };
 
-    ghost lawful = { first_of (Prim.search rules, Prim.grind (arith, Self.row.coded.inj)) };
+    ghost lawful = { λ o. offer_lawful (listed o.offer.list) o.offer.good };
 
     fn rows(&self) -> usize {
         self.offer.rows()

@@ -1,5 +1,7 @@
 //! The ledger of a day: entries that the site holds, and the calls that append to them and read them.
 
+#![tactic(auto)]
+
 pub mod day;
 pub mod entry;
 pub mod fault;

@@ -1,5 +1,7 @@
 //! Tests of a day and its ledger. The expected amounts were worked out by hand or by a second program, with no use of the code.
 
+#![tactic(auto)]
+
 #[cfg(test)]
 mod amount_tests;
 #[cfg(test)]

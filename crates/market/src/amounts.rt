@@ -180,7 +180,7 @@ fn reserve_loss(class: &ReserveClass) -> i64
 /// The energy payment of one interval: the profit at the economic point, less the larger of the profits at schedule and reading. It
 /// is never negative.
 pub fn energy_payment<L: Ladder>(ladder: &L, interval: &Interval) -> i64
-    ensures value { result ≡ energy_payment (means ladder.now) (interval_of interval.now) }
+    ensures value { result ≡ energy_payment (L.means ladder.now) (interval_of interval.now) }
     ensures sound { pos 0 ≤ℤ result }
     ensures bound { unsigned_abs result ≤ 40000000000 }
 {
@@ -192,7 +192,7 @@ pub fn energy_payment<L: Ladder>(ladder: &L, interval: &Interval) -> i64
 
 /// The reserve payment of one interval: the lost profit of its reserve schedule. It is never negative.
 pub fn reserve_payment<L: Ladder>(ladder: &L, interval: &ReserveInterval) -> i64
-    ensures value { result ≡ reserve_payment (means ladder.now) (reserve_interval_of interval.now) }
+    ensures value { result ≡ reserve_payment (L.means ladder.now) (reserve_interval_of interval.now) }
     ensures sound { pos 0 ≤ℤ result }
     ensures bound { unsigned_abs result ≤ 40000000000 }
 {

@@ -1,5 +1,7 @@
 //! The market arithmetic of one position: exact, in whole numbers, with no input left out.
 
+#![tactic(auto)]
+
 pub mod amounts;
 pub mod cents;
 pub mod figures;

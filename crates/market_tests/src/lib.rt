@@ -1,5 +1,7 @@
 //! Tests of the ladders and of the market arithmetic.
 
+#![tactic(auto)]
+
 #[cfg(test)]
 mod ladder_tests;
 #[cfg(test)]

@@ -1,5 +1,7 @@
 //! Tests of bases, pools and sharing, with a basis of a site's own.
 
+#![tactic(auto)]
+
 pub mod bands;
 #[cfg(test)]
 mod basis_tests;

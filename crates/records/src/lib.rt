@@ -1,6 +1,8 @@
 //! What the records of a file mean to the market: the position of a resource, a virtual position, the prices of the zone. A record
 //! that a check of its block passed has its meaning; one that was never checked may have none.
 
+#![tactic(auto)]
+
 mod figures;
 mod intervals;
 mod reserve;

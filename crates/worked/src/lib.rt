@@ -1,5 +1,7 @@
 //! The worked examples, which hold of the definitions of all libraries.
 
+#![tactic(auto)]
+
 ghost use Rattle.worked.specs.Worked.{ExamplesHold, examples as worked};
 ghost use Rattle.std.specs.Prelude.{◌≡◌, length};
 

@@ -9,13 +9,13 @@ use Rattle.ladders.proofs.ladder.profit.Goals as goal
 pub loop-row-init : goal.loop-row-init
 loop-row-init g c = (sym (earned_none _ _ _), omega arith)
 
-pub overflow-sub-to : goal.overflow-sub-to
-overflow-sub-to g c =
+pub overflow_sub-to : goal.overflow_sub-to
+overflow_sub-to g c =
     let rise = (g.met.L.Ladder.lawful c.args.ladder.now).rising c.loop-row.row (omega arith) in
     omega arith
 
-pub row-profit-profit-requires : goal.row-profit-profit-requires
-row-profit-profit-requires g c =
+pub row_profit-profit-requires : goal.row_profit-profit-requires
+row_profit-profit-requires g c =
     let lawful = g.met.L.Ladder.lawful c.args.ladder.now in
     let fits : SFits w32 c.gain.result = search rules in
     let small = lawful.bounded (to_z w32 (of_z w32 c.args.price)) c.loop-row.row in
@@ -23,7 +23,7 @@ row-profit-profit-requires g c =
     simp to_z-of_z (record { small = rw c.gain.ensures small; inner = omega arith })
 
 -- a turn adds what the row earns
-more : (g : given.Over) (c : goal.After-row-profit-profit g) → c.loop-row.profit +ℤ c.row-profit-profit.result ≡ earned (g.L.Ladder.means c.args.ladder.now) c.args.price c.args.quantity (c.loop-row.row + 1)
+more : (g : given.Over) (c : goal.After-row_profit-profit g) → c.loop-row.profit +ℤ c.row_profit-profit.result ≡ earned (g.L.Ladder.means c.args.ladder.now) c.args.price c.args.quantity (c.loop-row.row + 1)
 more g c =
     let rows = g.L.Ladder.means c.args.ladder.now in
     let row = c.loop-row.row in
@@ -31,11 +31,11 @@ more g c =
     let fits_gain : SFits w32 c.gain.result = search rules in
     let is_part : c.min-to.result - c.loop-row.from ≡ inside rows row c.args.quantity = omega arith in
     let is_gain : to_z w32 (of_z w32 c.gain.result) ≡ rows.gain c.args.price row = to_z-of_z w32 c.gain.result fits_gain ∙ simp to_z-of_z at c.gain.ensures in
-    let here = rw (is_gain, is_part) at c.row-profit-profit.ensures.value in
+    let here = rw (is_gain, is_part) at c.row_profit-profit.ensures.value in
     let before : c.loop-row.profit ≡ earned rows c.args.price c.args.quantity row = sym c.loop-row.profit-is ∙ simp to_z-of_z at c.loop-row.invariant.0 in
     rw (before, here) (sym (earned_more rows c.args.price c.args.quantity row))
 
-total_fits : (g : given.Over) (c : goal.After-row-profit-profit g) → SFits w64 (c.loop-row.profit +ℤ c.row-profit-profit.result)
+total_fits : (g : given.Over) (c : goal.After-row_profit-profit g) → SFits w64 (c.loop-row.profit +ℤ c.row_profit-profit.result)
 total_fits g c =
     let lawful = g.met.L.Ladder.lawful c.args.ladder.now in
     let short = last_short lawful c.args.price (c.loop-row.row + 1) (omega arith) in
@@ -43,14 +43,14 @@ total_fits g c =
     let is = more g c in
     omega (arith, ints, ap nat_abs is)
 
-pub overflow-add-profit : goal.overflow-add-profit
-overflow-add-profit g c = let h = total_fits g c in omega (arith, ints)
+pub overflow_add-profit : goal.overflow_add-profit
+overflow_add-profit g c = let h = total_fits g c in omega (arith, ints)
 
 pub loop-row-preserved : goal.loop-row-preserved
 loop-row-preserved g c =
     let fits = c.ranges.price in
     let FitsSum = total_fits g c in
-    let fits_row : SFits w64 c.row-profit-profit.result = search rules in
+    let fits_row : SFits w64 c.row_profit-profit.result = search rules in
     simp (c.loop-row.profit-is, to_z-of_z) (more g c, rw start_more (omega arith))
 
 pub returns : goal.returns

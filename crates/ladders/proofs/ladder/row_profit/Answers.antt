@@ -17,8 +17,8 @@ within c = product_within 400000 c.args.part c.args.gain (pos c.args.part) c.req
 fits : (c : goal.After-from) → SFits w64 (c.args.gain *ℤ pos c.args.part)
 fits c = omega (arith, ints, within c)
 
-pub overflow-mul-result : goal.overflow-mul-result
-overflow-mul-result c = rw (product c) (fits c)
+pub overflow_mul-result : goal.overflow_mul-result
+overflow_mul-result c = rw (product c) (fits c)
 
 pub returns : goal.returns
 returns c = let f = fits c in rw (product c) (simp to_z-of_z (record { value = refl; bound = within c }))

@@ -6,7 +6,7 @@ use Rattle.ladders.specs.Ladder.{counted_price}
 use Rattle.ladders.specs.RowLists.{listed}
 use Rattle.ladders.specs.declared.rows.Row.{Row}
 use Rattle.ladders.specs.declared.rows.LadderKind.TheVariants.{Bid}
-use Rattle.ladders.proofs.Lawfuls.{price_within}
+use Rattle.ladders.specs.Lawfuls.{price_within}
 use Rattle.ladders.proofs.bid.BidLadder.gain.Goals as goal
 
 pub returns-then-row-len : goal.returns-then-row-len

@@ -4,9 +4,9 @@ use Rattle.std.proofs.lemmas.List.{take_at}
 use Rattle.ladders.specs.Rows.{no_row}
 use Rattle.ladders.proofs.row_list.RowList.copied.Goals as goal
 
-pub invariant-of-result : goal.invariant-of-result
-invariant-of-result c =
-    (same_len_mid 0 (length c.args.rows.now - 0) (replicate 20 no_row) c.copy-from-slice.new.self c.copy-from-slice.ensures.len, (c.requires, tt))
+pub invariant_of-result : goal.invariant_of-result
+invariant_of-result c =
+    record { whole = same_len_mid 0 (length c.args.rows.now - 0) (replicate 20 no_row) c.copy_from_slice.new.self c.copy_from_slice.ensures.len; few = c.requires }
 
 pub returns : goal.returns
-returns c = take_at c.copy-from-slice.new.self _ _ (ap length c.copy-from-slice.ensures.after) ∙ c.copy-from-slice.ensures.after
+returns c = take_at c.copy_from_slice.new.self _ _ (ap length c.copy_from_slice.ensures.after) ∙ c.copy_from_slice.ensures.after

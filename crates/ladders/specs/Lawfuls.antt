@@ -1,4 +1,4 @@
--- Good rows make a lawful ladder.
+-- Good rows make a lawful ladder. These lemmas stand here since the laws of the offers and bids of the code name them.
 use Rattle.std.proofs.Common.{◌≡◌, ℕ, zero, suc, ◌<◌, ◌≤◌, true, false, cond, ◌&&◌, ltb, List, length, ℤ, pos, negsuc, ◌-ℤ◌, nat_abs, ◌≤ℤ◌, ◌<ℤ◌, sym, refl, ap, ⊎_elim, arith}
 use lib.Signed.{le_z, lt_z}
 use borrow.Author.Differences.{ints}
