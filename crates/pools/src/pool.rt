@@ -38,7 +38,7 @@ pub struct Shares {
 /// The weight of one owner.
 fn weight_of<B: Basis>(basis: &B, withdrawn: &Withdrawals, place: usize) -> u64
     requires { place < withdrawn.now.owners }
-    ensures exact { result ≡ weights weighs basis.now withdrawn.now.quantities place }
+    ensures exact { result ≡ weights B.weighs basis.now withdrawn.now.quantities place }
     ensures bound { result ≤ 6400000 }
 {
     u64::from(basis.weight(place, withdrawn.quantities[place]))
@@ -46,7 +46,7 @@ fn weight_of<B: Basis>(basis: &B, withdrawn: &Withdrawals, place: usize) -> u64
 
 /// The weight of all owners.
 fn whole_weight<B: Basis>(basis: &B, withdrawn: &Withdrawals) -> u64
-    ensures exact { result ≡ weight_before (weights weighs basis.now withdrawn.now.quantities) withdrawn.now.owners }
+    ensures exact { result ≡ weight_before (weights B.weighs basis.now withdrawn.now.quantities) withdrawn.now.owners }
     ensures bound { result ≤ 6400000 * withdrawn.now.owners }
 {
     let mut whole: u64 = 0;
@@ -96,7 +96,7 @@ fn owner_share(amount: i64, before: u64, weight: u64, whole: u64, reached: i64) 
 /// Shares a pool by the weights of a basis, which is asked for owners only. An owner gets what falls to the running weight up to it,
 /// less what fell to the weight before it. Where nothing weighs, the operator takes all.
 pub fn share<B: Basis>(pool: Pool, basis: &B, withdrawn: &Withdrawals) -> Shares
-    ensures { Shared pool.amount (weights weighs basis.now withdrawn.now.quantities) withdrawn.now.owners result.owners result.operator }
+    ensures { Shared pool.amount (weights B.weighs basis.now withdrawn.now.quantities) withdrawn.now.owners result.owners result.operator }
 {
     let Pool { amount } = pool;
     let whole = whole_weight(basis, withdrawn);
