@@ -1,10 +1,10 @@
 -- On a lawful ladder no quantity earns more than the economic point.
-use Rattle.std.proofs.Common.{◌≡◌, ℕ, zero, suc, ◌+◌, ◌-◌, ◌*◌, ◌<◌, ◌≤◌, min, Bool, true, false, cond, ℤ, pos, negsuc, ◌+ℤ◌, ◌*ℤ◌, ◌≤ℤ◌, ◌<ℤ◌, sym, refl, ap, ◌∙◌, ⊎_elim, add-one, arith}
+use Rattle.std.proofs.Common.{◌≡◌, ℕ, zero, suc, ◌+◌, ◌*◌, ◌<◌, ◌≤◌, Bool, true, false, ℤ, pos, negsuc, ◌+ℤ◌, ◌*ℤ◌, ◌≤ℤ◌, ◌<ℤ◌, refl, ◌∙◌, ⊎_elim, add-one, arith}
 use lib.Signed.{le_z}
 use borrow.Author.Differences.{ints}
 use Rattle.std.proofs.lemmas.Nat.{mul-le}
 use Rattle.std.proofs.lemmas.Bool.{cases_lt, cases_Bool}
-use Rattle.ladders.specs.Ladder.{Rows, Lawful, PointLaw, start, inside, earned, profit, point_among, economic_point}
+use Rattle.ladders.specs.Ladder.{Rows, Lawful, PointLaw, start, inside, earned, point_among, economic_point}
 use Rattle.ladders.proofs.Profits.{earned_none, earned_suc, ends_rise, last_short}
 
 -- ---- a turn of the loop

@@ -1,5 +1,5 @@
 -- Good rows make a lawful ladder. These lemmas stand here since the laws of the offers and bids of the code name them.
-use Rattle.std.proofs.Common.{◌≡◌, ℕ, zero, suc, ◌<◌, ◌≤◌, true, false, cond, ◌&&◌, ltb, List, length, ℤ, pos, negsuc, ◌-ℤ◌, nat_abs, ◌≤ℤ◌, ◌<ℤ◌, sym, refl, ap, ⊎_elim, arith}
+use Rattle.std.proofs.Common.{◌≡◌, ℕ, zero, suc, ◌<◌, ◌≤◌, true, cond, ◌&&◌, ltb, List, length, ℤ, pos, negsuc, ◌-ℤ◌, nat_abs, ◌≤ℤ◌, ◌<ℤ◌, ap, ⊎_elim, arith}
 use lib.Signed.{le_z, lt_z}
 use borrow.Author.Differences.{ints}
 use Rattle.std.proofs.lemmas.List.{get_or_past}

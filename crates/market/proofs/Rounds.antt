@@ -1,5 +1,5 @@
 -- The law of rounding.
-use Rattle.std.proofs.Common.{◌≡◌, ℕ, suc, ◌+◌, ◌/◌, ◌<◌, ◌⊎◌, ℤ, pos, negsuc, neg_ℤ, sym, refl, subst, inl, inr, ⊎_elim, arith}
+use Rattle.std.proofs.Common.{◌≡◌, suc, ◌+◌, ◌/◌, ◌<◌, ◌⊎◌, ℤ, pos, negsuc, neg_ℤ, refl, inl, inr, ⊎_elim, arith}
 use borrow.Author.Differences.{up, down, neg_is, ints}
 use Rattle.std.proofs.lemmas.Bool.{cases_lt}
 use Rattle.market.specs.Cents.{nearest_cent, distance, Nearest, Rounding}

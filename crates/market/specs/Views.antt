@@ -1,5 +1,5 @@
 -- The plain numbers of the positions that the code holds.
-use Rattle.std.specs.Prelude.{List, map, ℤ}
+use Rattle.std.specs.Prelude.{map, ℤ}
 use Rattle.market.specs.Positions.{Interval, Position, ReserveClass, ReserveInterval, VirtualPosition, ZonePrices}
 use Rattle.ladders.specs.Offers.{reserve_rows}
 use Rattle.ladders.specs.Rows.{offer_ladder}

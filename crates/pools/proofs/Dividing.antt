@@ -1,12 +1,12 @@
 -- What falls to a running weight, and the laws of shares.
-use Rattle.std.proofs.Common.{◌≡◌, ℕ, zero, suc, ◌+◌, ◌-◌, ◌*◌, ◌/◌, ◌%◌, ◌<◌, ◌≤◌, ◌≢◌, List, length, get_or, set, replicate, ℤ, pos, ◌+ℤ◌, ◌-ℤ◌, ◌*ℤ◌, nat_abs, sym, refl, ap, ◌∙◌, ⊎_elim, add-zero, mul_comm, mul-zero, mul-add, div-mul-le_self, mul-div_cancel, arith, get_or-set_other, get_or-set_same, below_more}
+use Rattle.std.proofs.Common.{◌≡◌, ℕ, zero, suc, ◌+◌, ◌-◌, ◌*◌, ◌/◌, ◌%◌, ◌<◌, ◌≤◌, ◌≢◌, List, length, get_or, set, replicate, ℤ, pos, ◌+ℤ◌, ◌-ℤ◌, ◌*ℤ◌, nat_abs, sym, refl, ap, ◌∙◌, mul_comm, mul-zero, mul-add, div-mul-le_self, mul-div_cancel, arith, get_or-set_other, get_or-set_same, below_more}
 use native.Mathlib.Nat.{zero-div, div-zero, div-add-mod, div-le_of_le-mul}
 use borrow.Author.Differences.{ints}
 use lib.IntN.{+ℤ_idl, +ℤ_idr}
 use Rattle.std.proofs.lemmas.Nat.{mod_below, mul-le, le-div}
 use Rattle.pools.specs.Sharing.{Shared, before, signed_as, falls_to, share_of, operator_part, sum_of}
 use Rattle.pools.proofs.Signs.{signed_whole, signed_none, signed_abs, signed_minus, signed_scaled, signed_times, signed_gap}
-use Rattle.pools.proofs.Weighing.{before_none, before_suc, before_more}
+use Rattle.pools.proofs.Weighing.{before_none, before_suc}
 
 -- ---- what falls to a running weight
 pub quotient_within : (size running whole : ℕ) → running ≤ whole → size * running / whole ≤ size

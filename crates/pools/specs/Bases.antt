@@ -1,5 +1,5 @@
 -- The weights that the bases give.
-use Rattle.std.specs.Prelude.{ℕ, min, Bool, true, false, cond, List, slice_index, slice_index_or}
+use Rattle.std.specs.Prelude.{ℕ, min, Bool, false, cond, List, slice_index, slice_index_or}
 
 -- Withdrawn: the quantity itself, at most 6,400,000.
 abbrev pub withdrawn : ℕ → ℕ

@@ -1,6 +1,6 @@
-use Rattle.std.proofs.Common.{◌≡◌, ◌*◌, ◌-ℤ◌, nat_abs, ap, ◌∙◌, w64, SFits, rules}
+use Rattle.std.proofs.Common.{◌≡◌, ◌*◌, w64, SFits, rules}
 use Rattle.std.proofs.lemmas.Int.{to_z-of_z}
-use Rattle.ladders.specs.Ladder.{profit, best_profit}
+use Rattle.ladders.specs.Ladder.{profit}
 use Rattle.ladders.proofs.Profits.{profit_gap}
 use Rattle.ladders.proofs.ladder.best_profit.Goals as goal
 

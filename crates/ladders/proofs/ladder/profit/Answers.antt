@@ -1,7 +1,7 @@
-use Rattle.std.proofs.Common.{◌≡◌, ◌+◌, ◌-◌, ◌*◌, ◌≤◌, pos, ◌+ℤ◌, ◌*ℤ◌, nat_abs, sym, ap, ◌∙◌, arith, w32, w64, SFits, to_z, of_z, rules}
+use Rattle.std.proofs.Common.{◌≡◌, ◌+◌, ◌-◌, ◌+ℤ◌, nat_abs, sym, ap, ◌∙◌, arith, w32, w64, SFits, to_z, of_z, rules}
 use borrow.Author.Differences.{ints}
 use Rattle.std.proofs.lemmas.Int.{to_z-of_z}
-use Rattle.ladders.specs.Ladder.{earned, inside, start, profit}
+use Rattle.ladders.specs.Ladder.{earned, inside, profit}
 use Rattle.ladders.proofs.Profits.{earned_none, earned_more, earned_within, last_short, profit_law, start_more}
 use Rattle.ladders.proofs.ladder.profit.Given as given
 use Rattle.ladders.proofs.ladder.profit.Goals as goal

@@ -5,8 +5,8 @@ use Rattle.ladders.specs.Ladder.{profit}
 use Rattle.ladders.proofs.Integers.{short_of_larger}
 use Rattle.market.proofs.amounts.energy_payment.Goals as goal
 
-pub overflow-sub-result : goal.overflow-sub-result
-overflow-sub-result g c = omega (arith, ints, clamps)
+pub overflow_sub-result : goal.overflow_sub-result
+overflow_sub-result g c = omega (arith, ints, clamps)
 
 pub returns : goal.returns
 returns g c =
@@ -15,17 +15,17 @@ returns g c =
     let schedule = c.args.interval.now.schedule.tenths in
     let reading = c.args.interval.now.reading.kwh in
     let fits : SFits w32 price = search rules in
-    let fits_best : SFits w64 c.best-profit.result = search rules in
+    let fits_best : SFits w64 c.best_profit.result = search rules in
     let fits_scheduled : SFits w64 c.profit-scheduled.result = search rules in
     let fits_metered : SFits w64 c.profit-metered.result = search rules in
     let fits_larger : SFits w64 c.max.result = search rules in
-    let fits_paid : SFits w64 (c.best-profit.result -ℤ c.max.result) = omega (arith, ints, clamps) in
-    let best = simp to_z-of_z at c.best-profit.ensures.value in
+    let fits_paid : SFits w64 (c.best_profit.result -ℤ c.max.result) = omega (arith, ints, clamps) in
+    let best = simp to_z-of_z at c.best_profit.ensures.value in
     let scheduled : c.profit-scheduled.result ≡ profit rows price (100 * schedule) = simp (to_z-of_z, c.from.ensures) at c.profit-scheduled.ensures.value in
     let metered : c.profit-metered.result ≡ profit rows price (12 * reading) = simp (to_z-of_z, c.from-2.ensures) at c.profit-metered.ensures.value in
     let larger = simp to_z-of_z at c.max.ensures.value in
-    let most_scheduled = simp to_z-of_z at (c.best-profit.ensures.most (100 * schedule)) in
-    let most_metered = simp to_z-of_z at (c.best-profit.ensures.most (12 * reading)) in
-    let gap = simp to_z-of_z at (c.best-profit.ensures.gap (100 * schedule)) in
-    let short = short_of_larger c.best-profit.result c.profit-scheduled.result c.profit-metered.result c.max.result 40000000000 larger (rw scheduled most_scheduled) (rw metered most_metered) (rw scheduled gap) in
+    let most_scheduled = simp to_z-of_z at (c.best_profit.ensures.most (100 * schedule)) in
+    let most_metered = simp to_z-of_z at (c.best_profit.ensures.most (12 * reading)) in
+    let gap = simp to_z-of_z at (c.best_profit.ensures.gap (100 * schedule)) in
+    let short = short_of_larger c.best_profit.result c.profit-scheduled.result c.profit-metered.result c.max.result 40000000000 larger (rw scheduled most_scheduled) (rw metered most_metered) (rw scheduled gap) in
     simp to_z-of_z (record { value = cc; sound = short.0; bound = short.1 })

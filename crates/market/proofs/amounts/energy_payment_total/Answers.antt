@@ -8,8 +8,8 @@ use Rattle.market.specs.Views.{interval_of}
 use Rattle.market.proofs.Totals.{total_all}
 use Rattle.market.proofs.amounts.energy_payment_total.Goals as goal
 
-pub overflow-add-sum : goal.overflow-add-sum
-overflow-add-sum c = omega (arith, ints)
+pub overflow_add-sum : goal.overflow_add-sum
+overflow_add-sum c = omega (arith, ints)
 
 pub loop-interval-preserved : goal.loop-interval-preserved
 loop-interval-preserved c = (grind (arith, to_z-of_z, fold_more), omega (arith, ints), omega (arith, ints))

@@ -7,8 +7,8 @@ use Rattle.market.specs.Views.{cents_of}
 use Rattle.market.proofs.Totals.{total_all}
 use Rattle.market.proofs.amounts.spread_total.Goals as goal
 
-pub overflow-add-sum : goal.overflow-add-sum
-overflow-add-sum c = omega (arith, ints)
+pub overflow_add-sum : goal.overflow_add-sum
+overflow_add-sum c = omega (arith, ints)
 
 pub loop-price-preserved : goal.loop-price-preserved
 loop-price-preserved c = (grind (arith, to_z-of_z, fold_more), omega (arith, ints))

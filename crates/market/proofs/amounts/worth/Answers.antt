@@ -4,8 +4,8 @@ use Rattle.std.proofs.lemmas.Int.{to_z-of_z}
 use Rattle.ladders.proofs.Integers.{product_within}
 use Rattle.market.proofs.amounts.worth.Goals as goal
 
-pub overflow-mul-result : goal.overflow-mul-result
-overflow-mul-result c =
+pub overflow_mul-result : goal.overflow_mul-result
+overflow_mul-result c =
     let p = c.ranges.price in
     let q = c.ranges.quantity in
     simp to_z-of_z (omega (arith, ints, product_within 4800000 100800 c.args.price c.args.quantity c.requires.priced c.requires.sized))

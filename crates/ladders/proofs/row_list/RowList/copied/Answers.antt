@@ -1,4 +1,4 @@
-use Rattle.std.proofs.Common.{◌≡◌, ◌-◌, length, replicate, ap, ◌∙◌}
+use Rattle.std.proofs.Common.{◌-◌, length, replicate, ap, ◌∙◌}
 use borrow.Rule.Slice.PartMut.{same_len_mid}
 use Rattle.std.proofs.lemmas.List.{take_at}
 use Rattle.ladders.specs.Rows.{no_row}

@@ -1,4 +1,4 @@
-use Rattle.std.proofs.Common.{◌≡◌, sym, add-one, below_more}
+use Rattle.std.proofs.Common.{sym, add-one, below_more}
 use Rattle.std.proofs.lemmas.Bool.{and_from}
 use Rattle.ladders.proofs.rows.LadderKind.check.Goals as goal
 
