@@ -7,7 +7,7 @@ use Rattle.blocks.specs.declared.limits.Limits.{Limits}
 use Rattle.blocks.specs.Firsts.{Verdict, first_of, lifted, unless, up_to}
 use Rattle.blocks.specs.Lone.{LowestOf, part_verdict}
 use Rattle.blocks.specs.Records.{Opened, record_of}
-use Rattle.blocks.specs.Verdicts.{LowestDecides, block_verdict, check_verdict, hour_verdict, kind_verdict, number_verdict, on_opened, place_verdict, range_verdict, record_verdict, rows_verdict, rule_verdicts, schedule_verdict, unused_verdict}
+use Rattle.blocks.specs.Verdicts.{LowestDecides, block_verdict, check_verdict, hour_verdict, kind_verdict, number_verdict, on_opened, place_verdict, range_verdict, rows_verdict, rule_verdicts, schedule_verdict, unused_verdict}
 use Rattle.blocks.proofs.Deciding.{up_to_decides}
 
 abbrev Rules : Type 0

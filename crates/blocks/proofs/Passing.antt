@@ -3,10 +3,8 @@ use Rattle.std.proofs.Common.{◌≡◌, ℕ, Bool, true, false, ◌&&◌, List,
 use lib.Signed.{le_z}
 use borrow.Author.Differences.{ints}
 use Rattle.std.proofs.lemmas.Bool.{and_parts}
-use Rattle.blocks.specs.declared.fault.BlockFault.{BlockFault}
-use Rattle.blocks.specs.declared.limits.Limits.{Limits}
 use Rattle.blocks.specs.Firsts.{Verdict, first_of, unless}
-use Rattle.blocks.specs.Verdicts.{block_verdict, body_verdict, check_verdict}
+use Rattle.blocks.specs.Verdicts.{check_verdict}
 use Rattle.blocks.specs.Words.{check_of, word_at}
 
 pub first_passes : {E : Type 0} (a b : Verdict E) → first_of a b ≡ Ok tt → (a ≡ Ok tt) × (b ≡ Ok tt)

@@ -5,7 +5,7 @@ use Rattle.std.proofs.ByRecursion.{All-drop}
 use Rattle.std.proofs.lemmas.List.{drop-drop, take_at, drop_at, take_all, take-take, get_or-drop, take_more, flat_map_more, length-append, length-take-le, length-drop, take-append-drop, drop-take}
 use Rattle.std.proofs.lemmas.Int.{to_z_pos}
 use Rattle.blocks.specs.declared.block.BlockRecord.{BlockRecord}
-use Rattle.blocks.specs.Words.{weighted, check_of}
+use Rattle.blocks.specs.Words.{check_of}
 use Rattle.blocks.specs.Lone.{bytes_of, words_of, body_of, encoded, decoded}
 use Rattle.blocks.specs.Words.{word_at, word_bytes, with_word}
 use Rattle.blocks.proofs.Sums.{weighted_front}

@@ -1,5 +1,5 @@
 -- The check sum, one byte on.
-use Rattle.std.proofs.Common.{◌≡◌, ℕ, zero, suc, ◌+◌, ◌*◌, ◌<◌, ◌≤◌, List, ◌++◌, length, get_or, refl, add-one, arith}
+use Rattle.std.proofs.Common.{◌≡◌, ℕ, zero, suc, ◌+◌, ◌*◌, ◌≤◌, List, ◌++◌, length, get_or, refl, add-one, arith}
 use Rattle.std.proofs.lemmas.List.{get_or_append_left}
 use Rattle.blocks.specs.Words.{weighted}
 

@@ -1,5 +1,5 @@
 -- A record that was opened: its kind, its 512-byte part of the file, and the number of its block.
-use Rattle.std.specs.Prelude.{ℕ, Bool, cond, ◌&&◌, List, length, ℤ, Some, None, Ok, Err, Option, Result, ◌==◌, nat_lt}
+use Rattle.std.specs.Prelude.{ℕ, cond, ◌&&◌, List, length, ℤ, Some, None, Ok, Err, Option, Result, ◌==◌, nat_lt}
 use Rattle.blocks.specs.declared.fault.Rule.{Rule}
 use Rattle.blocks.specs.declared.fault.Rule.TheVariants as rules
 use Rattle.blocks.specs.declared.fault.BlockFault.{BlockFault}

@@ -1,7 +1,7 @@
 -- Which fault a block has.
-use Rattle.std.specs.Prelude.{◌≡◌, ℕ, zero, suc, ◌+◌, ◌-◌, ◌*◌, Bool, true, false, cond, not, ◌&&◌, ◌||◌, List, [], ◌∷◌, map, length, ℤ, pos, Some, None, Ok, Err, Option, Result, ◌==◌, int_le, int_lt, nat_le, nat_lt, slice_index_or, unsigned_abs}
+use Rattle.std.specs.Prelude.{◌≡◌, ℕ, zero, suc, ◌+◌, ◌*◌, Bool, false, cond, not, ◌&&◌, ◌||◌, List, [], ◌∷◌, map, length, ℤ, pos, Some, None, Ok, Err, Option, Result, ◌==◌, int_le, int_lt, nat_le, nat_lt, slice_index_or, unsigned_abs}
 use Rattle.std.specs.List.{range_with_len}
-use Rattle.ladders.specs.Rows.{good, most_rows}
+use Rattle.ladders.specs.Rows.{good}
 use Rattle.ladders.specs.declared.rows.LadderKind.{LadderKind}
 use Rattle.ladders.specs.declared.rows.LadderKind.TheVariants as ladders
 use Rattle.ladders.specs.declared.rows.Row.{Row}
@@ -15,7 +15,7 @@ use Rattle.blocks.specs.declared.limits.Limits.{Limits}
 use Rattle.blocks.specs.Firsts.{DecidesFirst, Verdict, first_in, first_of, if_found, unless}
 use Rattle.blocks.specs.Kinds.{figure_at, is_unused, schedule_at, side_fits}
 use Rattle.blocks.specs.Rules.{past}
-use Rattle.blocks.specs.Records.{Opened, by_kind, fault_at, record_of}
+use Rattle.blocks.specs.Records.{Opened, fault_at, record_of}
 use Rattle.blocks.specs.Words.{byte_at, check_of, word_at}
 
 -- A number lies from one bound to another.

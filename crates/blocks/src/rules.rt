@@ -20,7 +20,7 @@ pub(crate) trait WordRule {
 /// The lowest of words 1 to 126 that breaks a rule.
 pub(crate) fn first_breach<R: WordRule>(rule: &R, part: &[u8]) -> Option<usize>
     requires { length part.now ≡ 512 }
-    ensures { result ≡ first_word (λ i. broken rule.now i (word_at part.now i)) }
+    ensures { result ≡ first_word (λ i. R.broken rule.now i (word_at part.now i)) }
 {
     for i in 1..127 {
         if rule.breaks(i, word(part, i)) {

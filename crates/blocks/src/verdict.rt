@@ -138,7 +138,7 @@ fn check_number(record: &Record, limits: &Limits) -> Result<(), BlockFault>
 
 /// The fault at the lowest word that was found, if any.
 fn fault_at(found: Option<usize>, rule: Rule, block: usize) -> Result<(), BlockFault>
-    ensures { result ≡ if_found IfSome (fault_of rule block) }
+    ensures { result ≡ if_found found (fault_of rule block) }
 {
     match found {
         Some(word) => Err(BlockFault { rule, block, word }),

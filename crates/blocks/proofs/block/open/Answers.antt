@@ -4,11 +4,11 @@ use Rattle.blocks.proofs.Finding.{found_first}
 use Rattle.blocks.proofs.Ordering.{lowest_of}
 use Rattle.blocks.proofs.block.open.Goals as goal
 
-pub returns-in-err-check-block : goal.returns-in-err-check-block
-returns-in-err-check-block c =
+pub returns-in_err-check_block : goal.returns-in_err-check_block
+returns-in_err-check_block c =
     let limits = c.args.limits.now in
     let part = c.args.part.now in
-    let verdict : verdict_in c.from-residual.result ≡ part_verdict limits c.args.block part = search rules in
+    let verdict : verdict_in c.from_residual.result ≡ part_verdict limits c.args.block part = search rules in
     record { verdict = verdict; lowest = lowest_of limits c.args.block part _ verdict; words = found_first; opens = search rules }
 
 pub returns-then-part-ne-BLOCK : goal.returns-then-part-ne-BLOCK

@@ -15,7 +15,7 @@ loop-i-preserved c =
     let i = c.loop-i.i in
     let w = get_or c.args.words.now i (pos 0) in
     let fits : SFits w32 w = search rules in
-    (c.put-word.ensures ∙ (λ k. with_word (c.loop-i.invariant.0 k) (i + 1) (to_z-of_z w32 w fits k)) ∙ put_step c.args.part.now c.args.words.now i (omega arith) (omega arith), All-more (SFits w32) c.args.words.now i (pos 0) (omega arith) c.loop-i.invariant.1 fits)
+    (c.put_word.ensures ∙ (λ k. with_word (c.loop-i.invariant.0 k) (i + 1) (to_z-of_z w32 w fits k)) ∙ put_step c.args.part.now c.args.words.now i (omega arith) (omega arith), All-more (SFits w32) c.args.words.now i (pos 0) (omega arith) c.loop-i.invariant.1 fits)
 
 pub returns : goal.returns
 returns c =

@@ -1,4 +1,4 @@
-use Rattle.std.proofs.Common.{◌≡◌, ◌+◌, ◌*◌, length, take, drop}
+use Rattle.std.proofs.Common.{◌≡◌, length, take, drop}
 use Rattle.blocks.specs.Lone.{words_of}
 use Rattle.blocks.proofs.block.record_words.Given as goal
 

@@ -28,17 +28,17 @@ within kind rows (BadRow row) fault = fault.1
 
 pub returns-in-Ok : goal.returns-in-Ok
 returns-in-Ok c =
-    let same : take (c.args.count - 0) c.rows-from-rows.result ≡ rows_from c.args.part.now c.args.from c.args.count = ap (λ n. take n c.rows-from-rows.result) (omega arith) ∙ c.rows-from-rows.ensures in
+    let same : take (c.args.count - 0) c.rows_from-rows.result ≡ rows_from c.args.part.now c.args.from c.args.count = ap (λ n. take n c.rows_from-rows.result) (omega arith) ∙ c.rows_from-rows.ensures in
     record { value = none_bad c.args.kind _ (rw same at c.in-Ok.ensures.1); bound = tt }
 
 pub returns-in-Err : goal.returns-in-Err
 returns-in-Err c =
     let rows = rows_from c.args.part.now c.args.from c.args.count in
-    let same : take (c.args.count - 0) c.rows-from-rows.result ≡ rows = ap (λ n. take n c.rows-from-rows.result) (omega arith) ∙ c.rows-from-rows.ensures in
+    let same : take (c.args.count - 0) c.rows_from-rows.result ≡ rows = ap (λ n. take n c.rows_from-rows.result) (omega arith) ∙ c.rows_from-rows.ensures in
     let size = length-map-range_with_len (row_of c.args.part.now c.args.from) 0 c.args.count in
     let few : length rows ≤ most_rows c.args.kind = omega arith in
     let fault = subst (λ (r : List Row). FirstFault c.args.kind r c.in-Err.fault) same c.in-Err.ensures in
     record {
-      value = c.bad-row.ensures ∙ faulty c.args.kind rows c.in-Err.fault few fault;
-      bound = rw c.bad-row.ensures (rw size at (within c.args.kind rows c.in-Err.fault fault));
+      value = c.bad_row.ensures ∙ faulty c.args.kind rows c.in-Err.fault few fault;
+      bound = rw c.bad_row.ensures (rw size at (within c.args.kind rows c.in-Err.fault fault));
     }

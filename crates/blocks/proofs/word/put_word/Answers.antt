@@ -7,5 +7,5 @@ use Rattle.blocks.proofs.word.put_word.Goals as goal
 pub returns : goal.returns
 returns c =
     let at = 4 * c.args.i in
-    let bytes = c.copy-from-slice.ensures.after ∙ c.to-le-bytes.ensures ∙ ap word_bytes (to_z-of_z w32 c.args.value c.ranges.value) in
-    pasted c.args.part.now c.copy-from-slice.new.self at ∙ ap (λ ys. take at c.args.part.now ++ (ys ++ drop (at + 4) c.args.part.now)) bytes
+    let bytes = c.copy_from_slice.ensures.after ∙ c.to_le_bytes.ensures ∙ ap word_bytes (to_z-of_z w32 c.args.value c.ranges.value) in
+    pasted c.args.part.now c.copy_from_slice.new.self at ∙ ap (λ ys. take at c.args.part.now ++ (ys ++ drop (at + 4) c.args.part.now)) bytes
