@@ -6,44 +6,44 @@ use Rattle.records.proofs.Answering.{answers_none, answers_some}
 use Rattle.records.proofs.Holding.{has_from_held, position_held}
 use Rattle.records.proofs.position.Goals as goal
 
-pub returns-in-err-side : goal.returns-in-err-side
-returns-in-err-side c =
+pub returns-in_err-side : goal.returns-in_err-side
+returns-in_err-side c =
     let rec = opened c.args.block.now in
-    answers_none position_of (has_position rec) (position_at rec.part) _ c.from-residual.ensures
-    (λ has. c.in-err-side.ensures (position_held rec has).side)
+    answers_none position_of (has_position rec) (position_at rec.part) _ c.from_residual.ensures
+    (λ has. c.in_err-side.ensures (position_held rec has).side)
 
-pub returns-in-err-price : goal.returns-in-err-price
-returns-in-err-price c =
+pub returns-in_err-price : goal.returns-in_err-price
+returns-in_err-price c =
     let rec = opened c.args.block.now in
-    answers_none position_of (has_position rec) (position_at rec.part) _ c.from-residual-in-err-price.ensures
-    (λ has. c.in-err-price.ensures (position_held rec has).price)
+    answers_none position_of (has_position rec) (position_at rec.part) _ c.from_residual-in_err-price.ensures
+    (λ has. c.in_err-price.ensures (position_held rec has).price)
 
-pub returns-in-err-quantity : goal.returns-in-err-quantity
-returns-in-err-quantity c =
+pub returns-in_err-quantity : goal.returns-in_err-quantity
+returns-in_err-quantity c =
     let rec = opened c.args.block.now in
-    answers_none position_of (has_position rec) (position_at rec.part) _ c.from-residual-in-err-quantity.ensures
-    (λ has. c.in-err-quantity.ensures (position_held rec has).quantity)
+    answers_none position_of (has_position rec) (position_at rec.part) _ c.from_residual-in_err-quantity.ensures
+    (λ has. c.in_err-quantity.ensures (position_held rec has).quantity)
 
-pub returns-in-err-intervals : goal.returns-in-err-intervals
-returns-in-err-intervals c =
+pub returns-in_err-intervals : goal.returns-in_err-intervals
+returns-in_err-intervals c =
     let rec = opened c.args.block.now in
-    answers_none position_of (has_position rec) (position_at rec.part) _ c.from-residual-in-err-intervals.ensures
-    (λ has. c.in-err-intervals.ensures (position_held rec has).intervals)
+    answers_none position_of (has_position rec) (position_at rec.part) _ c.from_residual-in_err-intervals.ensures
+    (λ has. c.in_err-intervals.ensures (position_held rec has).intervals)
 
-pub returns-in-err-reserve : goal.returns-in-err-reserve
-returns-in-err-reserve c =
+pub returns-in_err-reserve : goal.returns-in_err-reserve
+returns-in_err-reserve c =
     let rec = opened c.args.block.now in
-    answers_none position_of (has_position rec) (position_at rec.part) _ c.from-residual-in-err-reserve.ensures
-    (λ has. c.in-err-reserve.ensures (position_held rec has).reserve)
+    answers_none position_of (has_position rec) (position_at rec.part) _ c.from_residual-in_err-reserve.ensures
+    (λ has. c.in_err-reserve.ensures (position_held rec has).reserve)
 
 pub returns : goal.returns
 returns c =
     let rec = opened c.args.block.now in
-    let side = c.in-ok-side.ensures in
-    let price = c.in-ok-price.ensures in
-    let quantity = c.in-ok-quantity.ensures in
-    let intervals = c.in-ok-intervals.ensures in
-    let reserve = c.in-ok-reserve.ensures in
+    let side = c.in_ok-side.ensures in
+    let price = c.in_ok-price.ensures in
+    let quantity = c.in_ok-quantity.ensures in
+    let intervals = c.in_ok-intervals.ensures in
+    let reserve = c.in_ok-reserve.ensures in
     answers_some position_of (has_position rec) (position_at rec.part) _
     (λ i. record {
       trade = (side.1 i).0;

@@ -8,7 +8,7 @@ use Rattle.records.proofs.rows.rows_from.Goals as goal
 
 pub loop-k-preserved : goal.loop-k-preserved
 loop-k-preserved c =
-    let here = c.in-ok-rows.ensures in
+    let here = c.in_ok-rows.ensures in
     let part = (opened c.args.block.now).part in
     (rw length-set c.loop-k.invariant.0, means_more (λ row. row) (row_of part c.args.from) _ _ _ (omega arith) c.loop-k.invariant.1 here.1)
 
