@@ -1,5 +1,5 @@
 -- How large what a block adds to its place is, and that it adds no negative make-whole.
-use Rattle.std.proofs.Common.{◌≡◌, ℕ, zero, suc, ◌+◌, ◌*◌, ◌<◌, ◌≤◌, List, map, length, get_or, ℤ, pos, nat_abs, ◌≤ℤ◌, Some, Ok, sum_by, sum, Option, sym, refl, ap, ◌∙◌, subst, arith}
+use Rattle.std.proofs.Common.{◌≡◌, ℕ, ◌+◌, ◌*◌, ◌<◌, ◌≤◌, List, map, length, get_or, pos, nat_abs, ◌≤ℤ◌, Some, Ok, sum, Option, sym, refl, ap, subst, arith}
 use borrow.Author.Differences.{ints}
 use Rattle.std.specs.List.{range_with_len}
 use Rattle.std.proofs.lemmas.List.FromFn.{get_or-map-range_with_len, length-map-range_with_len}
@@ -9,8 +9,7 @@ use Rattle.blocks.specs.Records.{Opened}
 use Rattle.blocks.specs.Words.{word_at}
 use Rattle.blocks.specs.declared.kind.Kind.{Kind}
 use Rattle.blocks.specs.declared.kind.Kind.TheVariants as kinds
-use Rattle.blocks.specs.declared.limits.Limits.{Limits}
-use Rattle.market.specs.Positions.{Interval, ZonePrices}
+use Rattle.market.specs.Positions.{Interval}
 use Rattle.market.specs.declared.range.Figure.TheVariants.{Price}
 use Rattle.market.specs.declared.trade.Trade.{Trade}
 use Rattle.market.specs.declared.trade.Trade.TheVariants.{Sale, Purchase}
@@ -20,7 +19,7 @@ use Rattle.records.proofs.Holding.{PositionHeld, position_held, virtual_held, zo
 use Rattle.hourfile.specs.declared.lines.Line.{Line}
 use Rattle.hourfile.specs.declared.lines.Line.TheVariants.{DayAheadEnergy, Balancing, Virtual, Reserve, DayAheadMakeWhole, RealTimeMakeWhole, Uplift, Residual}
 use Rattle.hourfile.specs.Files.{limits_at, part_of, verdict_at}
-use Rattle.hourfile.specs.Hours.{block_line, block_withdrawn, kind_in, kind_line, kind_withdrawn, position_line, virtual_line, withdrawn_by}
+use Rattle.hourfile.specs.Hours.{block_line, block_withdrawn, kind_line, kind_withdrawn, position_line, virtual_line, withdrawn_by}
 use Rattle.hourfile.proofs.Bounds.{balancing_within, day_ahead_energy_within, day_ahead_make_whole_sound, interval_reading, quantity_within, real_time_make_whole_sound, reserve_within, virtual_trade_within}
 use Rattle.hourfile.proofs.ByLine.{by_line}
 use Rattle.hourfile.proofs.Passed.{Passed, block_passed, has_its_position, has_its_virtual, has_its_zone, header_passed, whole_part}

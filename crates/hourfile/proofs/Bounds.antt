@@ -1,16 +1,14 @@
 -- How large each line of a position is, and that no make-whole is negative.
-use Rattle.std.proofs.Common.{◌≡◌, ℕ, ◌+◌, ◌*◌, ◌<◌, ◌≤◌, true, false, eqb, List, map, length, ℤ, pos, ◌+ℤ◌, ◌-ℤ◌, ◌*ℤ◌, nat_abs, ◌≤ℤ◌, Some, None, Option, sym, refl, subst, arith}
+use Rattle.std.proofs.Common.{◌≡◌, ℕ, ◌+◌, ◌*◌, ◌<◌, ◌≤◌, true, eqb, List, map, ℤ, pos, ◌+ℤ◌, ◌-ℤ◌, ◌*ℤ◌, nat_abs, ◌≤ℤ◌, Some, None, Option, refl, subst, arith}
 use borrow.Author.Differences.{ints}
-use lib.Signed.{le_z, lt_z}
 use Rattle.std.specs.List.{range_with_len}
-use Rattle.std.specs.Int.{int_max}
-use Rattle.std.proofs.lemmas.Bool.{and_from, and_parts, cond_both, eqb-true, both_ways}
+use Rattle.std.proofs.lemmas.Bool.{and_from, and_parts, cond_both, eqb-true}
 use Rattle.blocks.specs.Records.{Opened}
 use Rattle.blocks.specs.Verdicts.{energy_kind, energy_rows, reserve_rows, rows_from}
 use Rattle.blocks.specs.Words.{byte_at, word_at}
 use Rattle.ladders.specs.Ladder.{Lawful, Rows, best_profit, lost_profit, profit}
-use Rattle.ladders.specs.Rows.{AllGood, bid_ladder, good, in_range, in_step, offer_ladder, row_at, row_before}
-use Rattle.ladders.specs.declared.rows.LadderKind.TheVariants.{Offer, Bid, Reserve}
+use Rattle.ladders.specs.Rows.{AllGood, in_range, in_step, row_at, row_before}
+use Rattle.ladders.specs.declared.rows.LadderKind.TheVariants.{Offer, Reserve}
 use Rattle.ladders.specs.declared.rows.Row.{Row}
 use Rattle.ladders.proofs.Best.{point_law}
 use Rattle.ladders.proofs.Integers.{product_within, short_of_larger, sum_within}
@@ -18,13 +16,13 @@ use Rattle.ladders.specs.Lawfuls.{bid_lawful, offer_lawful}
 use Rattle.ladders.proofs.Profits.{profit_gap}
 use Rattle.market.specs.Amounts.{balancing, day_ahead_energy, day_ahead_make_whole, energy_payment, imbalance, real_time_make_whole, reserve, reserve_change, reserve_payment, spread, total, virtual_trade}
 use Rattle.market.specs.Figures.{InRange}
-use Rattle.market.specs.Positions.{Interval, Position, ReserveInterval, VirtualPosition, ZonePrices}
+use Rattle.market.specs.Positions.{Interval, Position, VirtualPosition}
 use Rattle.market.specs.Sides.{no_rows}
 use Rattle.market.specs.Trades.{sign}
 use Rattle.market.specs.declared.range.Figure.TheVariants.{Price, ReservePrice, Quantity, Reading}
 use Rattle.market.specs.declared.trade.Trade.{Trade}
 use Rattle.market.specs.declared.trade.Trade.TheVariants.{Sale, Purchase}
-use Rattle.records.specs.Contents.{interval_at, ladder_at, position_at, reserve_at, reserve_interval_at, virtual_position_at, zone_price_at, zone_prices_at}
+use Rattle.records.specs.Contents.{interval_at, ladder_at, position_at, reserve_interval_at, zone_price_at, zone_prices_at}
 use Rattle.records.specs.Held.{AllIntervals, Holds, ZonePriceHolds}
 use Rattle.records.proofs.Holding.{PositionHeld}
 use Rattle.hourfile.proofs.Totals.{total_sound, total_within}

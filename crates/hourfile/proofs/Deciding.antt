@@ -3,7 +3,7 @@ use Rattle.std.proofs.Common.{◌≡◌, ℕ, ◌<◌, Bool, true, false, List, 
 use Rattle.blocks.specs.declared.fault.BlockFault.{BlockFault}
 use Rattle.blocks.specs.declared.fault.FileFault.{FileFault}
 use Rattle.blocks.specs.declared.fault.FileFault.TheVariants.{Length, Block}
-use Rattle.blocks.specs.Firsts.{DecidesFirst, Verdict, first_of, lifted, unless, up_to}
+use Rattle.blocks.specs.Firsts.{Verdict, first_of, lifted, unless, up_to}
 use Rattle.blocks.proofs.Deciding.{up_to_decides, up_to_stops}
 use Rattle.hourfile.specs.Files.{FirstBlockDecides, blocks_in, file_verdict, right_length, verdict_at}
 

@@ -1,18 +1,18 @@
 -- The laws of an hour's amounts: both balances, no negative make-whole, and how large an amount is.
-use Rattle.std.proofs.Common.{◌≡◌, ℕ, zero, suc, ◌+◌, ◌-◌, ◌*◌, ◌/◌, ◌<◌, ◌≤◌, Bool, true, false, cond, ltb, List, ℤ, pos, negsuc, ◌+ℤ◌, ◌-ℤ◌, neg_ℤ, nat_abs, ◌≤ℤ◌, Ok, sym, refl, ap, ◌∙◌, ⊎_elim, arith}
+use Rattle.std.proofs.Common.{◌≡◌, ℕ, zero, suc, ◌+◌, ◌*◌, ◌<◌, ◌≤◌, ltb, List, ℤ, pos, negsuc, ◌+ℤ◌, ◌-ℤ◌, neg_ℤ, nat_abs, ◌≤ℤ◌, Ok, sym, ap, ◌∙◌, arith}
 use borrow.Author.Differences.{ints}
-use Rattle.std.proofs.lemmas.Bool.{cases_lt, cond_both, cond-false, cond-true, le-ltb, lt-ltb, ltb-true}
+use Rattle.std.proofs.lemmas.Bool.{cond_both, cond-false, cond-true, le-ltb, lt-ltb, ltb-true}
 use Rattle.pools.specs.Sharing.{before, falls_to, operator_part, share_of, signed_as}
 use Rattle.pools.proofs.Dividing.{all_falls, falls_to_none, quotient_within}
 use Rattle.pools.proofs.Weighing.{before_none, before_suc, before_within}
 use Rattle.hourfile.specs.declared.lines.Line.{Line}
 use Rattle.hourfile.specs.declared.lines.Line.TheVariants.{DayAheadEnergy, Balancing, Virtual, Reserve, DayAheadMakeWhole, RealTimeMakeWhole, Uplift, Residual}
 use Rattle.hourfile.specs.Files.{blocks_in, file_verdict}
-use Rattle.hourfile.specs.Hours.{HourLaws, amount, block_line, line_cents, line_grains, own_cents, pool_part, residual_pool, sum_below, trade_lines, trade_part, uplift_lines, uplift_part, uplift_pool, weight_at}
+use Rattle.hourfile.specs.Hours.{HourLaws, amount, block_line, line_cents, line_grains, own_cents, pool_part, residual_pool, sum_below, trade_part, uplift_part, uplift_pool, weight_at}
 use Rattle.hourfile.proofs.Adding.{line_bound}
 use Rattle.hourfile.proofs.ByLine.{by_line}
 use Rattle.hourfile.proofs.Placing.{Accepted, accepted, all_added, cent_sound, cent_within, grains_sound, grains_within, places_within}
-use Rattle.hourfile.proofs.Sums.{before_rounded, before_same, before_split, sum_more, sum_negative, sum_none, sum_plus, sum_same, sum_sizes, sum_suc}
+use Rattle.hourfile.proofs.Sums.{before_rounded, sum_more, sum_negative, sum_none, sum_plus, sum_same, sum_sizes, sum_suc}
 
 -- ---- the parts of a pool
 -- shares add up to what falls to the running weight

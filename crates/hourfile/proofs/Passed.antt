@@ -1,22 +1,16 @@
 -- What a block that passed its rules says, and how large what it adds is.
-use Rattle.std.proofs.Common.{◌≡◌, ℕ, zero, suc, ◌+◌, ◌-◌, ◌*◌, ◌/◌, ◌<◌, ◌≤◌, Bool, true, false, cond, ◌&&◌, eqb, ltb, leb, List, map, length, get_or, take, drop, ℤ, pos, nat_abs, ◌≤ℤ◌, is_ok, Some, None, Ok, Err, sum, Option, Result, sym, refl, ap, ◌∙◌, subst, arith, length-drop, length-take, get_or-take}
-use borrow.Author.Differences.{ints}
-use Rattle.std.specs.List.{between, range_with_len}
+use Rattle.std.proofs.Common.{◌≡◌, ℕ, zero, suc, ◌+◌, ◌-◌, ◌*◌, ◌<◌, ◌≤◌, true, leb, List, length, is_ok, Some, None, Ok, Option, refl, ap, ◌∙◌, subst, arith, length-drop, length-take, get_or-take}
 use Rattle.std.proofs.lemmas.Bool.{and_from, and_parts, eq-eqb, leb-true, ltb-true, false≢true}
-use Rattle.blocks.specs.Firsts.{Verdict, first_of, unless}
 use Rattle.blocks.specs.Kinds.{side_fits}
-use Rattle.blocks.specs.Records.{Opened, by_kind, fault_at, record_of}
+use Rattle.blocks.specs.Records.{Opened, by_kind}
 use Rattle.blocks.specs.Verdicts.{block_verdict, body_verdict, check_verdict, hour_verdict, kind_verdict, may_stand, number_verdict, on_opened, place_fits, place_verdict, range_verdict, record_verdict, rows_verdict, schedule_verdict, unused_verdict}
 use Rattle.blocks.specs.Verdicts as verdicts
 use Rattle.blocks.specs.Settings.{first, later}
-use Rattle.blocks.specs.Words.{byte_at, word_at}
-use Rattle.blocks.specs.declared.fault.BlockFault.{BlockFault}
+use Rattle.blocks.specs.Words.{byte_at}
 use Rattle.blocks.specs.declared.kind.Kind.{Kind}
 use Rattle.blocks.specs.declared.kind.Kind.TheVariants.{Header, Resource, Virtual}
 use Rattle.blocks.specs.declared.limits.Limits.{Limits}
-use Rattle.records.specs.Contents.{figures_in_range, has_position, has_virtual_position, has_zone_prices, is_whole, rows_are_right, side_is_right}
-use Rattle.records.specs.Held.{AllIntervals, Holds, ZonePriceHolds}
-use Rattle.records.proofs.Holding.{PositionHeld, position_held, virtual_held, zone_held}
+use Rattle.records.specs.Contents.{figures_in_range, has_position, has_virtual_position, has_zone_prices, rows_are_right, side_is_right}
 use Rattle.records.proofs.Passing.{both_pass, test_holds}
 use Rattle.hourfile.specs.Files.{blocks_in, limits_at, number_from, part_of, verdict_at}
 use Rattle.hourfile.specs.Hours.{kind_in}

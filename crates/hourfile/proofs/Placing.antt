@@ -1,7 +1,7 @@
 -- What the blocks of a file come to at their places: how large it is at one place, and over all of them.
-use Rattle.std.proofs.Common.{◌≡◌, ℕ, zero, suc, ◌+◌, ◌-◌, ◌*◌, ◌/◌, ◌%◌, ◌<◌, ◌≤◌, Bool, true, false, cond, ◌&&◌, eqb, leb, List, length, ℤ, pos, negsuc, ◌+ℤ◌, nat_abs, ◌≤ℤ◌, is_ok, Ok, Err, sym, refl, ap, ◌∙◌, mul-suc, arith}
+use Rattle.std.proofs.Common.{◌≡◌, ℕ, zero, suc, ◌+◌, ◌*◌, ◌%◌, ◌<◌, ◌≤◌, Bool, true, false, cond, ◌&&◌, eqb, leb, List, length, ℤ, pos, negsuc, ◌+ℤ◌, nat_abs, ◌≤ℤ◌, is_ok, Ok, ap, ◌∙◌, mul-suc, arith}
 use borrow.Author.Differences.{ints}
-use Rattle.std.proofs.lemmas.Bool.{and_parts, cond_both, eqb-true, leb-true}
+use Rattle.std.proofs.lemmas.Bool.{and_parts, leb-true}
 use Rattle.blocks.specs.Firsts.{lifted, unless, up_to}
 use Rattle.blocks.specs.Words.{byte_at}
 use Rattle.blocks.specs.declared.fault.FileFault.TheVariants.{Block, Length}
@@ -13,8 +13,8 @@ use Rattle.pools.proofs.Weighing.{before_none, before_suc}
 use Rattle.records.proofs.Passing.{test_holds}
 use Rattle.hourfile.specs.declared.lines.Line.{Line}
 use Rattle.hourfile.specs.Files.{blocks_in, file_verdict, part_of, right_length, verdict_at}
-use Rattle.hourfile.specs.Hours.{block_line, line_cents, line_grains, stands_at, sum_below}
-use Rattle.hourfile.proofs.Adding.{Added, added, line_bound}
+use Rattle.hourfile.specs.Hours.{block_line, line_grains, stands_at}
+use Rattle.hourfile.proofs.Adding.{Added, added}
 use Rattle.hourfile.proofs.Deciding.{below_none}
 use Rattle.hourfile.proofs.Sums.{before_split, once, sum_none, sum_sound, sum_suc, sum_within}
 

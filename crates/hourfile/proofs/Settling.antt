@@ -1,11 +1,10 @@
 -- From the tallies of the places to the amounts of the hour.
-use Rattle.std.proofs.Common.{◌≡◌, ℕ, zero, suc, ◌+◌, ◌-◌, ◌<◌, ◌≤◌, Bool, true, false, cond, ltb, List, length, get_or, take, ℤ, pos, neg_ℤ, nat_abs, Ok, sym, refl, ap, ◌∙◌, subst, ⊎_elim, arith, length-take, get_or-take}
+use Rattle.std.proofs.Common.{◌≡◌, ℕ, suc, ◌-◌, ◌<◌, ◌≤◌, ltb, List, length, get_or, take, ℤ, pos, neg_ℤ, nat_abs, Ok, sym, refl, ap, ◌∙◌, ⊎_elim, arith, length-take, get_or-take}
 use native.Mathlib.Nat.{sub-zero}
-use borrow.Author.Differences.{ints}
 use Rattle.std.proofs.lemmas.List.{get_or_past}
 use Rattle.std.proofs.lemmas.Bool.{cases_lt, cond-false, cond-true, le-ltb, lt-ltb}
 use Rattle.market.specs.Cents.{nearest_cent}
-use Rattle.pools.specs.Sharing.{Shared, before, operator_part, share_of, weights}
+use Rattle.pools.specs.Sharing.{Shared, before, operator_part}
 use Rattle.hourfile.specs.declared.hour.Gathered.{Gathered}
 use Rattle.hourfile.specs.declared.hour.Gathered.TheVariants.{Trade, Uplift}
 use Rattle.hourfile.specs.declared.lines.Line.{Line}
@@ -14,12 +13,11 @@ use Rattle.hourfile.specs.declared.lines.Lines.{Lines}
 use Rattle.hourfile.specs.declared.tally.Tally.{Tally}
 use Rattle.hourfile.specs.Files.{file_verdict}
 use Rattle.hourfile.specs.Gatherings.{gathered_part}
-use Rattle.hourfile.specs.Hours.{amount, line_cents, own_cents, pool_part, residual_pool, shared_line, sum_below, trade_part, uplift_part, uplift_pool, weight_at, withdrawn_at}
+use Rattle.hourfile.specs.Hours.{line_cents, own_cents, pool_part, residual_pool, sum_below, uplift_pool, weight_at, withdrawn_at}
 use Rattle.hourfile.specs.Lines.{line_of, no_lines}
 use Rattle.hourfile.specs.Tallies.{Tallied, grains_on, no_tally}
 use Rattle.hourfile.proofs.ByLine.{by_line}
-use Rattle.hourfile.proofs.Laws.{cents_within, part_within, residual_within, uplift_within}
-use Rattle.hourfile.proofs.Setting.{parts_same}
+use Rattle.hourfile.proofs.Laws.{cents_within, part_within}
 use Rattle.hourfile.proofs.Sums.{before_same, sum_same}
 
 pub nothing_on : (line : Line) → line_of no_lines line ≡ pos 0

@@ -1,5 +1,5 @@
 -- The tallies of the places, one block after the other.
-use Rattle.std.proofs.Common.{◌≡◌, ℕ, zero, suc, ◌+◌, ◌-◌, ◌*◌, ◌/◌, ◌<◌, ◌≤◌, Bool, true, false, cond, eqb, ◌≢◌, List, length, get_or, take, drop, set, replicate, ℤ, pos, ◌+ℤ◌, nat_abs, is_ok, Some, None, Ok, Err, Option, Result, sym, refl, ap, ◌∙◌, subst, ⊎_elim, arith, get_or-drop, get_or-set_other, get_or-take, get_or-set_same}
+use Rattle.std.proofs.Common.{◌≡◌, ℕ, ◌+◌, ◌-◌, ◌*◌, ◌<◌, ◌≤◌, Bool, true, false, cond, ◌≢◌, List, length, get_or, take, drop, set, replicate, ℤ, pos, ◌+ℤ◌, nat_abs, is_ok, Some, None, Ok, Option, Result, sym, refl, ap, ◌∙◌, subst, ⊎_elim, arith, get_or-drop, get_or-set_other, get_or-take, get_or-set_same}
 use borrow.Author.Differences.{ints}
 use Rattle.std.proofs.lemmas.Bool.{cases_eq, eq-eqb, ne_eqb}
 use Rattle.blocks.specs.Firsts.{lifted, up_to}
@@ -12,14 +12,13 @@ use Rattle.blocks.specs.declared.kind.Kind.{Kind}
 use Rattle.blocks.specs.declared.kind.Kind.TheVariants as kinds
 use Rattle.blocks.specs.declared.limits.Limits.{Limits}
 use Rattle.blocks.proofs.Deciding.{up_to_passes}
-use Rattle.pools.specs.Sharing.{before}
 use Rattle.pools.proofs.Weighing.{before_more, before_none}
 use Rattle.records.specs.Contents.{has_zone_prices, zone_prices_at}
 use Rattle.records.proofs.Passing.{both_pass}
 use Rattle.hourfile.specs.declared.lines.Line.{Line}
 use Rattle.hourfile.specs.declared.tally.Tally.{Tally}
 use Rattle.hourfile.specs.Files.{blocks_in, limits_at, part_of, verdict_at}
-use Rattle.hourfile.specs.Hours.{block_line, block_withdrawn, kind_in, kind_line, kind_withdrawn, line_grains, place_withdrawn, stands_at, sum_below}
+use Rattle.hourfile.specs.Hours.{block_line, block_withdrawn, kind_in, kind_line, kind_withdrawn, line_grains, place_withdrawn, stands_at}
 use Rattle.hourfile.specs.Tallies.{HasMeaning, TalliedUpto, grains_on, no_tally}
 use Rattle.hourfile.proofs.Adding.{Added, added, line_bound}
 use Rattle.hourfile.proofs.ByLine.{by_line}

@@ -1,7 +1,6 @@
 -- What a block, or the blocks of a place, come to.
 use Rattle.std.specs.Prelude.{◌≡◌, ℕ, ◌<◌, true, List, get_or, ℤ, pos, slice_index_or}
 use Rattle.blocks.specs.Records.{Opened}
-use Rattle.blocks.specs.declared.kind.Kind.{Kind}
 use Rattle.blocks.specs.declared.kind.Kind.TheVariants as kinds
 use Rattle.records.specs.Contents.{has_position, has_virtual_position}
 use Rattle.hourfile.specs.declared.lines.Line.{Line}

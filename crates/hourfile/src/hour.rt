@@ -112,7 +112,7 @@ fn gathered_total(gathered: Gathered, places: &[Lines]) -> i64
 /// Strikes a pool of an amount and shares it out.
 fn shared<B: Basis>(amount: i64, basis: &B, withdrawn: &Withdrawals) -> Shares
     requires { unsigned_abs amount ≤ 14000000000 }
-    ensures { Shared amount (weights weighs basis.now withdrawn.now.quantities) withdrawn.now.owners result.owners result.operator }
+    ensures { Shared amount (weights B.weighs basis.now withdrawn.now.quantities) withdrawn.now.owners result.owners result.operator }
 {
     match Pool::strike(amount) {
         Some(pool) => share(pool, basis, withdrawn),

@@ -14,14 +14,14 @@ unfolding up_to
 loop-block-init c = refl
 
 pub loop-block-preserved : goal.loop-block-preserved
-loop-block-preserved c = up_to_more _ _ c.loop-block.invariant (sym c.in-ok-check-part.ensures)
+loop-block-preserved c = up_to_more _ _ c.loop-block.invariant (sym c.in_ok-check_part.ensures)
 
-pub returns-in-err-check-part : goal.returns-in-err-check-part
-returns-in-err-check-part c =
+pub returns-in_err-check_part : goal.returns-in_err-check_part
+returns-in_err-check_part c =
     let file = c.args.file.now in
-    let p = err_from_is_err_and c.from-residual.result c.from-residual.ensures.1 in
+    let p = err_from_is_err_and c.from_residual.result c.from_residual.ensures.1 in
     let whole : right_length file ≡ true = grind (arith, nat_tests) in
     let blocks : ℕ → Verdict FileFault = λ block. lifted Block (verdict_at file c.args.owners block) in
-    let first = up_to_stops blocks c.loop-block.block (length file / 512) _ c.loop-block.invariant (sym c.in-err-check-part.ensures) c.loop-block-test.true in
-    let verdict : c.from-residual.result ≡ file_verdict file c.args.owners = rw (p.1, p.2, whole, first) in
+    let first = up_to_stops blocks c.loop-block.block (length file / 512) _ c.loop-block.invariant (sym c.in_err-check_part.ensures) c.loop-block-test.true in
+    let verdict : c.from_residual.result ≡ file_verdict file c.args.owners = rw (p.1, p.2, whole, first) in
     record { verdict = verdict; first = first_block_decides file c.args.owners _ verdict }

@@ -1,4 +1,4 @@
-use Rattle.std.proofs.Common.{◌≡◌, ℕ, zero, suc, ◌+◌, ◌<◌, ◌≤◌, length, get_or, set, replicate, sym, refl, ap, ◌∙◌, subst, ⊎_elim, arith, length-set}
+use Rattle.std.proofs.Common.{◌≡◌, ℕ, ◌<◌, length, get_or, set, sym, ap, ◌∙◌, subst, ⊎_elim, arith, length-set}
 use lib.ListN.{length-replicate}
 use Rattle.std.proofs.lemmas.Bool.{cases_eq}
 use Rattle.market.specs.Cents.{nearest_cent}
@@ -9,7 +9,7 @@ use Rattle.hourfile.proofs.hour.own_lines.Goals as goal
 
 pub loop-place-init : goal.loop-place-init
 loop-place-init c =
-    let all = c.no-places-places.ensures in
+    let all = c.no_places-places.ensures in
     (ap length all ∙ length-replicate 33 no_lines, λ place line h. absurd (omega arith), λ place h. ap (λ xs. get_or xs place no_lines) all ∙ replicated no_lines 33 place)
 
 pub loop-place-preserved : goal.loop-place-preserved

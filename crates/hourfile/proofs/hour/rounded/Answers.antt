@@ -11,11 +11,11 @@ none_rounds = refl
 pub returns : goal.returns
 returns c =
     by_line _
-    (let v = c.to-cents.ensures.value in grind (arith, to_z-of_z))
-    (let v = c.to-cents-2.ensures.value in grind (arith, to_z-of_z))
-    (let v = c.to-cents-3.ensures.value in grind (arith, to_z-of_z))
-    (let v = c.to-cents-4.ensures.value in grind (arith, to_z-of_z))
-    (let v = c.to-cents-5.ensures.value in grind (arith, to_z-of_z))
-    (let v = c.to-cents-6.ensures.value in grind (arith, to_z-of_z))
+    (let v = c.to_cents.ensures.value in grind (arith, to_z-of_z))
+    (let v = c.to_cents-2.ensures.value in grind (arith, to_z-of_z))
+    (let v = c.to_cents-3.ensures.value in grind (arith, to_z-of_z))
+    (let v = c.to_cents-4.ensures.value in grind (arith, to_z-of_z))
+    (let v = c.to_cents-5.ensures.value in grind (arith, to_z-of_z))
+    (let v = c.to_cents-6.ensures.value in grind (arith, to_z-of_z))
     none_rounds
     none_rounds

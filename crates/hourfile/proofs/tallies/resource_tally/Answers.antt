@@ -1,4 +1,4 @@
-use Rattle.std.proofs.Common.{◌≡◌, Bool, true, cond, Some, None, Option, ap, ◌∙◌}
+use Rattle.std.proofs.Common.{◌≡◌, Bool, true, cond, Some, None, ap, ◌∙◌}
 use Rattle.blocks.specs.Records.{opened}
 use Rattle.market.specs.Positions.{Position}
 use Rattle.market.specs.Views.{position_of}
@@ -14,6 +14,6 @@ returns c =
     let rec = opened c.args.block.now in
     let e : position_of c.in-Some.position ≡ position_at rec.part = held_is (has_position rec) _ _ c.in-Some.ensures c.requires in
     record {
-      grains = λ line. c.of-position.ensures.grains line ∙ ap (λ q. position_line q line) e;
-      withdrawn = c.of-position.ensures.withdrawn ∙ ap withdrawn_in e;
+      grains = λ line. c.of_position.ensures.grains line ∙ ap (λ q. position_line q line) e;
+      withdrawn = c.of_position.ensures.withdrawn ∙ ap withdrawn_in e;
     }
