@@ -2,7 +2,7 @@
 
 ghost use Rattle.std.specs.Prelude.{◌≡◌, ◌≤◌, true, ◌++◌, length, take, drop, pos, is_ok, IfOk, Ok, FitsSigned};
 ghost use Rattle.blocks.specs.Words.{check_of, word_at};
-ghost use Rattle.std.specs.List.{AllByRecursion as All};
+ghost use Rattle.std.specs.List.{AllByRecursion};
 ghost use Rattle.std.specs.Int.{w32};
 ghost use Rattle.blocks.specs.Firsts.{FindsFirst};
 ghost use Rattle.blocks.specs.Lone.{LowestOf, bytes_of, decoded, encoded, part_verdict, read_of, verdict_in, words_of, write_of, written};
@@ -41,7 +41,7 @@ fn record_words(part: &[u8]) -> [i32; 126]
 fn put_words(part: &mut [u8], words: &[i32; 126])
     requires { 512 ≤ length part.old }
     ensures bytes { part.new ≡ (take 4 part.old ++ bytes_of words.now) ++ drop 508 part.old }
-    ensures fit { All (FitsSigned w32) words.now }
+    ensures fit { AllByRecursion (FitsSigned w32) words.now }
 {
     for i in 0..RECORD_WORDS {
         put_word(part, i + 1, words[i]);

@@ -1,8 +1,7 @@
 -- The verdict of a settling, from those of the ledger, the file and the room.
-use Rattle.std.proofs.Common.{◌≡◌, ℕ, ◌+◌, ◌≤◌, Bool, true, false, leb, List, is_ok, Ok, Err, sym, refl, ap, ◌∙◌, arith}
+use Rattle.std.proofs.Common.{◌≡◌, ℕ, ◌+◌, ◌≤◌, true, leb, List, is_ok, Ok, Err, sym, ap}
 use Rattle.std.proofs.lemmas.Bool.{leb-true}
 use Rattle.blocks.specs.declared.fault.FileFault.{FileFault}
-use Rattle.blocks.specs.Firsts.{Verdict, first_of, lifted, unless}
 use Rattle.records.proofs.Passing.{test_holds}
 use Rattle.hourfile.specs.Files.{file_verdict}
 use Rattle.ledger.specs.declared.entry.Entry.{Entry}

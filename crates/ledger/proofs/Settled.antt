@@ -1,11 +1,11 @@
 -- The law of an accepted settling.
-use Rattle.std.proofs.Common.{◌≡◌, ℕ, zero, suc, ◌+◌, ◌<◌, ◌≤◌, true, List, length, get_or, ℤ, pos, ◌+ℤ◌, ◌-ℤ◌, nat_abs, ◌≤ℤ◌, sym, refl, ap, ◌∙◌, subst, inl, inr, arith}
+use Rattle.std.proofs.Common.{◌≡◌, ℕ, ◌+◌, ◌≤◌, true, List, length, get_or, ℤ, pos, ◌-ℤ◌, nat_abs, ◌≤ℤ◌, sym, ap, ◌∙◌, subst, inl, inr, arith}
 use borrow.Author.Differences.{ints}
 use Rattle.std.specs.List.{range_with_len, AllByRecursion as All}
 use Rattle.std.proofs.lemmas.List.FromFn.{get_or-range_with_len, length-range_with_len, length-map-range_with_len}
 use Rattle.std.proofs.ByRecursion.{All-append, All-from_get_or, All-map}
 use Rattle.std.proofs.lemmas.Bool.{cases_eq}
-use Rattle.hourfile.specs.Hours.{HourLaws, sum_below, trade_lines, uplift_lines}
+use Rattle.hourfile.specs.Hours.{HourLaws, trade_lines, uplift_lines}
 use Rattle.hourfile.specs.Lines.{no_lines}
 use Rattle.hourfile.specs.declared.lines.Line.{Line}
 use Rattle.hourfile.specs.declared.lines.Line.TheVariants.{DayAheadMakeWhole, RealTimeMakeWhole}

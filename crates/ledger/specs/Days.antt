@@ -1,5 +1,5 @@
 -- What opening a day and asking its state answer.
-use Rattle.std.specs.Prelude.{ℕ, Bool, cond, ◌&&◌, List, length, Ok, Err, Result, count_ones, nat_le}
+use Rattle.std.specs.Prelude.{ℕ, cond, ◌&&◌, List, length, Ok, Err, Result, count_ones, nat_le}
 use Rattle.ledger.specs.declared.day.DayNumbers.{DayNumbers}
 use Rattle.ledger.specs.declared.day.OpenDay.{OpenDay}
 use Rattle.ledger.specs.declared.entry.Entry.{Entry}

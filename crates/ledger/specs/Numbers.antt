@@ -1,5 +1,5 @@
 -- The numbers of a day.
-use Rattle.std.specs.Prelude.{ℕ, ◌+◌, ◌-◌, ◌/◌, ◌%◌, ◌^◌, Bool, cond, ◌||◌, bit_or}
+use Rattle.std.specs.Prelude.{ℕ, ◌+◌, ◌-◌, ◌/◌, ◌%◌, ◌^◌, bit_or}
 
 -- How many owners share it, how many entries its ledger has, how many of them, the first ones, are used, and the mask of its settled
 -- hours.

@@ -1,5 +1,5 @@
 -- The settling of an hour file into a day and its ledger.
-use Rattle.std.specs.Prelude.{◌≡◌, ℕ, ◌+◌, ◌≤◌, Bool, true, cond, List, map, ℤ, pos, ◌≤ℤ◌, Result, ◌==◌, ◌≢◌, nat_le}
+use Rattle.std.specs.Prelude.{◌≡◌, ℕ, ◌+◌, ◌≤◌, true, cond, List, map, ℤ, pos, ◌≤ℤ◌, Result, ◌==◌, ◌≢◌, nat_le}
 use Rattle.std.specs.List.{range_with_len}
 use Rattle.blocks.specs.Firsts.{Verdict, first_of, lifted, unless}
 use Rattle.hourfile.specs.Files.{file_verdict}

@@ -3,29 +3,29 @@ use Rattle.ledger.proofs.Fitting.{difference_fits, difference_is}
 use Rattle.hourfile.proofs.ByLine.{by_line}
 use Rattle.ledger.proofs.lines.difference.Goals as goal
 
-pub overflow-sub-result : goal.overflow-sub-result
-overflow-sub-result c = difference_fits c.args.a c.args.b c.requires.first c.requires.second DayAheadEnergy
+pub overflow_sub-result : goal.overflow_sub-result
+overflow_sub-result c = difference_fits c.args.a c.args.b c.requires.first c.requires.second DayAheadEnergy
 
-pub overflow-sub-result-2 : goal.overflow-sub-result-2
-overflow-sub-result-2 c = difference_fits c.args.a c.args.b c.requires.first c.requires.second Balancing
+pub overflow_sub-result-2 : goal.overflow_sub-result-2
+overflow_sub-result-2 c = difference_fits c.args.a c.args.b c.requires.first c.requires.second Balancing
 
-pub overflow-sub-result-3 : goal.overflow-sub-result-3
-overflow-sub-result-3 c = difference_fits c.args.a c.args.b c.requires.first c.requires.second Virtual
+pub overflow_sub-result-3 : goal.overflow_sub-result-3
+overflow_sub-result-3 c = difference_fits c.args.a c.args.b c.requires.first c.requires.second Virtual
 
-pub overflow-sub-result-4 : goal.overflow-sub-result-4
-overflow-sub-result-4 c = difference_fits c.args.a c.args.b c.requires.first c.requires.second Reserve
+pub overflow_sub-result-4 : goal.overflow_sub-result-4
+overflow_sub-result-4 c = difference_fits c.args.a c.args.b c.requires.first c.requires.second Reserve
 
-pub overflow-sub-result-5 : goal.overflow-sub-result-5
-overflow-sub-result-5 c = difference_fits c.args.a c.args.b c.requires.first c.requires.second DayAheadMakeWhole
+pub overflow_sub-result-5 : goal.overflow_sub-result-5
+overflow_sub-result-5 c = difference_fits c.args.a c.args.b c.requires.first c.requires.second DayAheadMakeWhole
 
-pub overflow-sub-result-6 : goal.overflow-sub-result-6
-overflow-sub-result-6 c = difference_fits c.args.a c.args.b c.requires.first c.requires.second RealTimeMakeWhole
+pub overflow_sub-result-6 : goal.overflow_sub-result-6
+overflow_sub-result-6 c = difference_fits c.args.a c.args.b c.requires.first c.requires.second RealTimeMakeWhole
 
-pub overflow-sub-result-7 : goal.overflow-sub-result-7
-overflow-sub-result-7 c = difference_fits c.args.a c.args.b c.requires.first c.requires.second Uplift
+pub overflow_sub-result-7 : goal.overflow_sub-result-7
+overflow_sub-result-7 c = difference_fits c.args.a c.args.b c.requires.first c.requires.second Uplift
 
-pub overflow-sub-result-8 : goal.overflow-sub-result-8
-overflow-sub-result-8 c = difference_fits c.args.a c.args.b c.requires.first c.requires.second Residual
+pub overflow_sub-result-8 : goal.overflow_sub-result-8
+overflow_sub-result-8 c = difference_fits c.args.a c.args.b c.requires.first c.requires.second Residual
 
 pub returns : goal.returns
 returns c =

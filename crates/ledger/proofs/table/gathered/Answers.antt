@@ -15,25 +15,25 @@ use Rattle.ledger.proofs.table.gathered.Goals as goal
 pub loop-entry-init : goal.loop-entry-init
 loop-entry-init c = (
   λ k h. absurd (omega arith),
-  ap length c.empty-table-table.ensures ∙ length-replicate 792 no_lines,
-  tells_none 792 c.empty-table-table.result c.empty-table-table.ensures,
-  bounded_none 792 c.empty-table-table.result c.empty-table-table.ensures,
+  ap length c.empty_table-table.ensures ∙ length-replicate 792 no_lines,
+  tells_none 792 c.empty_table-table.result c.empty_table-table.ensures,
+  bounded_none 792 c.empty_table-table.result c.empty_table-table.ensures,
 )
 
-pub returns-then-not-is-sound : goal.returns-then-not-is-sound
+pub returns-then-not-is_sound : goal.returns-then-not-is_sound
 unfolding all_sound
-returns-then-not-is-sound c =
+returns-then-not-is_sound c =
     every_false (is_sound c.args.owners) c.args.entries.now c.loop-entry.entry-index blank c.loop-entry-test.true
-    (sym c.is-sound.ensures ∙ c.if-not-is-sound.true)
+    (sym c.is_sound.ensures ∙ c.if-not-is_sound.true)
 
 pub cell-cell-requires : goal.cell-cell-requires
 cell-cell-requires c =
-    let s = sound_parts c.args.owners (get_or c.args.entries.now c.loop-entry.entry-index blank) (sym c.is-sound.ensures ∙ c.if-not-is-sound.false) in
+    let s = sound_parts c.args.owners (get_or c.args.entries.now c.loop-entry.entry-index blank) (sym c.is_sound.ensures ∙ c.if-not-is_sound.false) in
     (s.from, (s.to, omega arith))
 
 pub sum-requires : goal.sum-requires
 sum-requires c =
-    let s = sound_parts c.args.owners (get_or c.args.entries.now c.loop-entry.entry-index blank) (sym c.is-sound.ensures ∙ c.if-not-is-sound.false) in
+    let s = sound_parts c.args.owners (get_or c.args.entries.now c.loop-entry.entry-index blank) (sym c.is_sound.ensures ∙ c.if-not-is_sound.false) in
     record {
       first = λ line. let size = c.loop-entry.invariant.3 c.cell-cell.result line in omega arith;
       second = λ line. let size = s.small line in omega arith;
@@ -43,7 +43,7 @@ pub loop-entry-preserved : goal.loop-entry-preserved
 loop-entry-preserved c =
     let e : Entry = get_or c.args.entries.now c.loop-entry.entry-index blank in
     let table : List Lines = c.loop-entry.table in
-    let is : is_sound c.args.owners e ≡ true = sym c.is-sound.ensures ∙ c.if-not-is-sound.false in
+    let is : is_sound c.args.owners e ≡ true = sym c.is_sound.ensures ∙ c.if-not-is_sound.false in
     let s = sound_parts c.args.owners e is in
     let at : c.cell-cell.result ≡ cell_of e.hour e.place = c.cell-cell.ensures.exact in
     let adds : Adds table e c.sum.result = record {

@@ -10,16 +10,16 @@ use Rattle.ledger.proofs.table.hour_within.Goals as goal
 at_cell : (table : List Lines) (hour place cell : ℕ) → cell ≡ cell_of hour place → is_within 50000000000 (in_table table hour place) ≡ is_within 50000000000 (line_of (get_or table cell no_lines))
 at_cell table hour place cell e = ap (λ n. is_within 50000000000 (line_of (get_or table n no_lines))) (sym e)
 
-pub returns-then-not-are-within : goal.returns-then-not-are-within
-returns-then-not-are-within c =
+pub returns-then-not-are_within : goal.returns-then-not-are_within
+returns-then-not-are_within c =
     sym (below_false (λ place. is_within 50000000000 (in_table c.args.table.now c.args.hour place)) (c.args.owners + 1)
     c.loop-place.place c.loop-place-test.true
-    (at_cell c.args.table.now c.args.hour c.loop-place.place c.cell.result c.cell.ensures.exact ∙ sym c.are-within.ensures ∙ c.if-not-are-within.true))
+    (at_cell c.args.table.now c.args.hour c.loop-place.place c.cell.result c.cell.ensures.exact ∙ sym c.are_within.ensures ∙ c.if-not-are_within.true))
 
 pub loop-place-preserved : goal.loop-place-preserved
 loop-place-preserved c =
     below_more _ _ c.loop-place.invariant
-    (at_cell c.args.table.now c.args.hour c.loop-place.place c.cell.result c.cell.ensures.exact ∙ sym c.are-within.ensures ∙ c.if-not-are-within.false)
+    (at_cell c.args.table.now c.args.hour c.loop-place.place c.cell.result c.cell.ensures.exact ∙ sym c.are_within.ensures ∙ c.if-not-are_within.false)
 
 pub returns : goal.returns
 returns c =

@@ -4,13 +4,13 @@ use Rattle.ledger.specs.Tables.{in_table}
 use Rattle.ledger.proofs.Every.{below_all, below_false}
 use Rattle.ledger.proofs.table.table_within.Goals as goal
 
-pub returns-then-not-hour-within : goal.returns-then-not-hour-within
-returns-then-not-hour-within c =
+pub returns-then-not-hour_within : goal.returns-then-not-hour_within
+returns-then-not-hour_within c =
     sym (below_false (λ hour. every_below (λ place. is_within 50000000000 (in_table c.args.table.now (hour + 1) place)) (c.args.owners + 1)) 24
-    c.loop-hour.hour c.loop-hour-test.true (sym c.hour-within.ensures ∙ c.if-not-hour-within.true))
+    c.loop-hour.hour c.loop-hour-test.true (sym c.hour_within.ensures ∙ c.if-not-hour_within.true))
 
 pub loop-hour-preserved : goal.loop-hour-preserved
-loop-hour-preserved c = below_more _ _ c.loop-hour.invariant (sym c.hour-within.ensures ∙ c.if-not-hour-within.false)
+loop-hour-preserved c = below_more _ _ c.loop-hour.invariant (sym c.hour_within.ensures ∙ c.if-not-hour_within.false)
 
 pub returns : goal.returns
 returns c =

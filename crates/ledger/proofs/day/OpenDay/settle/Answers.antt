@@ -1,4 +1,4 @@
-use Rattle.std.proofs.Common.{◌≡◌, ℕ, ◌+◌, ◌-◌, ◌<◌, ◌≤◌, true, false, List, map, length, get_or, take, pos, nat_abs, Ok, Err, sym, refl, ap, ◌∙◌, subst, ⊎_elim, arith, length-take, get_or-take, rules}
+use Rattle.std.proofs.Common.{◌≡◌, ℕ, ◌+◌, ◌-◌, ◌<◌, ◌≤◌, List, map, length, get_or, take, nat_abs, Ok, sym, refl, ap, ◌∙◌, subst, ⊎_elim, arith, length-take, get_or-take}
 use native.Mathlib.Nat.{sub-zero}
 use Rattle.std.specs.List.{range_with_len}
 use Rattle.std.proofs.lemmas.List.{get_or_past}
@@ -13,11 +13,10 @@ use Rattle.hourfile.specs.declared.lines.Lines.{Lines}
 use Rattle.hourfile.proofs.Settling.{nothing_on}
 use Rattle.ledger.specs.declared.entry.Entry.{Entry}
 use Rattle.ledger.specs.Days.{numbers}
-use Rattle.ledger.specs.Ledgers.{used_of}
-use Rattle.ledger.specs.Numbers.{Numbers, places}
-use Rattle.ledger.specs.Postings.{appended, postings}
-use Rattle.ledger.specs.Settling.{SettledLaw, settle_verdict, settled_day, settled_ledger}
-use Rattle.ledger.specs.Tables.{Tells, in_table, posted}
+use Rattle.ledger.specs.Numbers.{Numbers}
+use Rattle.ledger.specs.Postings.{appended}
+use Rattle.ledger.specs.Settling.{SettledLaw, settled_day, settled_ledger}
+use Rattle.ledger.specs.Tables.{posted}
 use Rattle.ledger.proofs.Gathering.{table_bounded}
 use Rattle.ledger.proofs.Holding.{held}
 use Rattle.ledger.proofs.Posted.{posted_is}
@@ -26,22 +25,22 @@ use Rattle.ledger.proofs.Settled.{settled_law}
 use Rattle.ledger.proofs.day.OpenDay.settle.Goals as goal
 
 -- ---- refused
-pub returns-in-err-table : goal.returns-in-err-table
-returns-in-err-table g c =
-    let p = err_from_is_err_and c.from-residual.result c.from-residual.ensures.1 in
-    let v = refused_ledger (numbers c.args.self.now) c.args.ledger.now c.args.file.now _ c.in-err-table.ensures.verdict in
+pub returns-in_err-table : goal.returns-in_err-table
+returns-in_err-table g c =
+    let p = err_from_is_err_and c.from_residual.result c.from_residual.ensures.1 in
+    let v = refused_ledger (numbers c.args.self.now) c.args.ledger.now c.args.file.now _ c.in_err-table.ensures.verdict in
     rw (p.1, p.2, v) (record { answer = refl; day = refl; entries = refl; law = λ ok. absurd (false≢true ok) })
 
-pub returns-in-err-new : goal.returns-in-err-new
-returns-in-err-new g c =
-    let p = err_from_is_err_and c.from-residual-in-err-new.result c.from-residual-in-err-new.ensures.1 in
-    let v = refused_file (numbers c.args.self.now) c.args.ledger.now c.args.file.now _ c.in-ok-table.ensures.verdict c.in-err-new.ensures.verdict in
+pub returns-in_err-new : goal.returns-in_err-new
+returns-in_err-new g c =
+    let p = err_from_is_err_and c.from_residual-in_err-new.result c.from_residual-in_err-new.ensures.1 in
+    let v = refused_file (numbers c.args.self.now) c.args.ledger.now c.args.file.now _ c.in_ok-table.ensures.verdict c.in_err-new.ensures.verdict in
     rw (p.1, p.2, v) (record { answer = refl; day = refl; entries = refl; law = λ ok. absurd (false≢true ok) })
 
-pub returns-in-err-check-room : goal.returns-in-err-check-room
-returns-in-err-check-room g c =
-    let p = err_from_is_err_and c.from-residual-in-err-check-room.result c.from-residual-in-err-check-room.ensures.1 in
-    let v = refused_room (numbers c.args.self.now) c.args.ledger.now c.args.file.now _ c.in-ok-table.ensures.verdict c.in-ok-new.ensures.verdict c.in-err-check-room.ensures in
+pub returns-in_err-check_room : goal.returns-in_err-check_room
+returns-in_err-check_room g c =
+    let p = err_from_is_err_and c.from_residual-in_err-check_room.result c.from_residual-in_err-check_room.ensures.1 in
+    let v = refused_room (numbers c.args.self.now) c.args.ledger.now c.args.file.now _ c.in_ok-table.ensures.verdict c.in_ok-new.ensures.verdict c.in_err-check_room.ensures in
     rw (p.1, p.2, v) (record { answer = refl; day = refl; entries = refl; law = λ ok. absurd (false≢true ok) })
 
 -- ---- accepted
@@ -71,12 +70,12 @@ post-requires g c =
     let n = numbers c.args.self.now in
     let ledger = c.args.ledger.now in
     let few = c.args.self.now.numbers.few in
-    let new = c.in-ok-new.new in
-    let s = c.in-ok-new.ensures.settles in
-    let holds = holds_if n ledger c.in-ok-table.ensures.verdict in
+    let new = c.in_ok-new.new in
+    let s = c.in_ok-new.ensures.settles in
+    let holds = holds_if n ledger c.in_ok-table.ensures.verdict in
     let h = held n ledger holds in
     let same_length = h.same_length in
-    let room = room_if n c.in-ok-check-room.ensures in
+    let room = room_if n c.in_ok-check_room.ensures in
     let count = c.places-places.ensures in
     let long = part_length n.owners c.places-places.result few count new.places new.whole in
     record {
@@ -84,7 +83,7 @@ post-requires g c =
       few = omega arith;
       room = omega arith;
       bounded = λ place line. omega (arith, part_bounded c.args.file.now n.owners c.places-places.result _ _ few count new s place line);
-      standing = λ place line l. omega (arith, table_bounded n ledger c.in-ok-table.table holds c.in-ok-table.ensures.tells.1 few new.hour place line s.from s.to (omega arith));
+      standing = λ place line l. omega (arith, table_bounded n ledger c.in_ok-table.table holds c.in_ok-table.ensures.tells.1 few new.hour place line s.from s.to (omega arith));
     }
 
 pub returns : goal.returns
@@ -93,17 +92,17 @@ returns g c =
     let ledger = c.args.ledger.now in
     let file = c.args.file.now in
     let few = c.args.self.now.numbers.few in
-    let new = c.in-ok-new.new in
-    let s = c.in-ok-new.ensures.settles in
+    let new = c.in_ok-new.new in
+    let s = c.in_ok-new.ensures.settles in
     let amounts = amount file n.owners (g.U.Basis.weighs c.args.uplift.now) (g.R.Basis.weighs c.args.residual.now) in
-    let holds = holds_if n ledger c.in-ok-table.ensures.verdict in
-    let room = room_if n c.in-ok-check-room.ensures in
+    let holds = holds_if n ledger c.in_ok-table.ensures.verdict in
+    let room = room_if n c.in_ok-check_room.ensures in
     let count = c.places-places.ensures in
     let part = take (c.places-places.result - 0) new.places in
     let long = part_length n.owners c.places-places.result few count new.places new.whole in
-    let table = c.in-ok-table.table in
-    let v = accepted_by_all n ledger file c.in-ok-table.ensures.verdict c.in-ok-new.ensures.verdict c.in-ok-check-room.ensures in
-    let posts = posted_is n ledger new.hour amounts part table s.from s.to few c.in-ok-table.ensures.tells.1
+    let table = c.in_ok-table.table in
+    let v = accepted_by_all n ledger file c.in_ok-table.ensures.verdict c.in_ok-new.ensures.verdict c.in_ok-check_room.ensures in
+    let posts = posted_is n ledger new.hour amounts part table s.from s.to few c.in_ok-table.ensures.tells.1
     (λ place line h. ap (λ x. line_of x line) (part_at n.owners c.places-places.result few count new.places new.whole place h) ∙ s.exact place line h) in
     let day : numbers (record { numbers = c.settled-self.result }) ≡ settled_day n (hour_of file) = c.settled-self.ensures ∙ ap (settled_day n) s.hour_is in
     let entries : c.post.new.ledger ≡ settled_ledger n ledger (hour_of file) amounts =
