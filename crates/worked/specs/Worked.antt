@@ -1,6 +1,6 @@
 -- Worked examples: what the definitions give, and what it should be.
 use Rattle.std.specs.Prelude.{◌≡◌, ℕ, Bool, true, false, List, [], ◌∷◌, ◌++◌, map, replicate, ℤ, pos, negsuc, slice_index_or}
-use Rattle.std.specs.List.{range_with_len, AllByRecursion as All}
+use Rattle.std.specs.List.{range_with_len, AllByRecursion}
 use Rattle.ladders.specs.Ladder.{economic_point}
 use Rattle.ladders.specs.Rows.{offer_ladder, bid_ladder}
 use Rattle.ladders.specs.declared.rows.Row.{Row}
@@ -84,4 +84,4 @@ examples =
 
 -- Each example gives what it should.
 abbrev pub ExamplesHold : Type 0
-ExamplesHold = All (λ example. example.given ≡ example.expected) examples
+ExamplesHold = AllByRecursion (λ example. example.given ≡ example.expected) examples
