@@ -1,4 +1,6 @@
 // Settles one hour file from standard input, and prints the lines of every place.
+#![tactic(auto)]
+
 ghost use Rattle.std.specs.Prelude.{◌≡◌, ◌+◌, IfOk, vec_len};
 ghost use Rattle.sheet.specs.Sheets.{sheet_answer, sheet_ledger};
 

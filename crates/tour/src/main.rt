@@ -1,4 +1,6 @@
 // Settles one position of an hour from beginning to end, and prints the steps.
+#![tactic(auto)]
+
 mod hour;
 
 use hour::tell_hour;

@@ -1,5 +1,5 @@
 -- Worked examples: what the definitions give, and what it should be.
-use Rattle.std.specs.Prelude.{◌≡◌, ℕ, Bool, true, false, List, [], ◌∷◌, ◌++◌, map, replicate, ℤ, pos, negsuc, slice_index_or}
+use Rattle.std.specs.Prelude.{◌≡◌, ℕ, true, false, List, [], ◌∷◌, ◌++◌, map, replicate, ℤ, pos, negsuc, slice_index_or}
 use Rattle.std.specs.List.{range_with_len, AllByRecursion}
 use Rattle.ladders.specs.Ladder.{economic_point}
 use Rattle.ladders.specs.Rows.{offer_ladder, bid_ladder}
