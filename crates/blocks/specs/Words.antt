@@ -1,7 +1,6 @@
 -- The bytes and words of a block: 512 bytes, 128 words of four bytes each, least byte first, signed in two's complement.
 use Rattle.std.specs.Prelude.{ℕ, zero, suc, ◌+◌, ◌*◌, ◌/◌, ◌%◌, List, [], ◌∷◌, ◌++◌, take, drop, ℤ, slice_index}
-use Rattle.std.proofs.Common.{to_z, of_z}
-use Rattle.std.specs.Int.{w32}
+use Rattle.std.specs.Int.{cast_signed, cast_unsigned, w32}
 
 -- A byte of a block.
 abbrev pub byte_at : List ℕ → ℕ → ℕ
@@ -13,14 +12,14 @@ bits_at part i = byte_at part i + byte_at part (i + 1) * 256 + byte_at part (i +
 
 -- A word of a block.
 abbrev pub word_at : List ℕ → ℕ → ℤ
-word_at part i = to_z w32 (bits_at part (4 * i))
+word_at part i = cast_signed w32 (bits_at part (4 * i))
 
 -- The four bytes of a number and of a word, least first.
 abbrev pub le_bytes : ℕ → List ℕ
 le_bytes n = n % 256 ∷ n / 256 % 256 ∷ n / 65536 % 256 ∷ n / 16777216 % 256 ∷ []
 
 abbrev pub word_bytes : ℤ → List ℕ
-word_bytes z = le_bytes (of_z w32 z)
+word_bytes z = le_bytes (cast_unsigned w32 z)
 
 -- The bytes with one word written over.
 abbrev pub with_word : List ℕ → ℕ → ℤ → List ℕ

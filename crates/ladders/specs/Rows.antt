@@ -60,8 +60,8 @@ FirstFault kind rows (BadRow row) = (length rows ≤ most_rows kind) × (row < l
 
 -- What the making of a ladder of some rows answers: the ladder of just these rows, or their first fault.
 abbrev pub Made : {A : Type 0} → (A → List Row) → LadderKind → List Row → Result A LadderFault → Type 0
-Made rows_of_lem kind rows (Ok ladder) = (length rows ≤ most_rows kind) × AllGood kind rows × (rows_of_lem ladder ≡ rows)
-Made rows_of_lem kind rows (Err fault) = FirstFault kind rows fault
+Made rows_of kind rows (Ok ladder) = (length rows ≤ most_rows kind) × AllGood kind rows × (rows_of ladder ≡ rows)
+Made rows_of kind rows (Err fault) = FirstFault kind rows fault
 
 -- ---- the ladder that rows mean
 -- An offer gains the price less the row's price.

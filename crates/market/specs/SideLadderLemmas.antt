@@ -1,3 +1,4 @@
+-- The ladder without rows is lawful. This lemma stands here since the law of the sides of the code names it.
 use Rattle.std.specs.Prelude.{refl}
 use Rattle.std.proofs.Common.{arith}
 use Rattle.ladders.specs.Ladder.{Lawful}

@@ -19,9 +19,9 @@ no_fault : (kind : LadderKind) (rows : List Row) (fault : LadderFault) → lengt
 no_fault kind rows TooManyRows few all first = omega arith
 no_fault kind rows (BadRow row) few all first = both_ways (good kind rows row) first.2 (all row first.1)
 
-module _ {A : Type 0} (rows_of_lem : A → List Row) (kind : LadderKind) where
-  made_reads : (rows : List Row) (Counted : Type 0) (made : Result A LadderFault) → length rows ≤ most_rows kind → Counted → Made rows_of_lem kind rows made
-      → Reads rows_of_lem (Counted × AllGood kind rows) rows (result_ok made)
+module _ {A : Type 0} (rows_of : A → List Row) (kind : LadderKind) where
+  made_reads : (rows : List Row) (Counted : Type 0) (made : Result A LadderFault) → length rows ≤ most_rows kind → Counted → Made rows_of kind rows made
+      → Reads rows_of (Counted × AllGood kind rows) rows (result_ok made)
   made_reads rows Counted (Ok ladder) few counted is = ((counted, is.1), is.2)
   made_reads rows Counted (Err fault) few counted is = λ has. no_fault kind rows fault few has.1 is
 
@@ -30,9 +30,9 @@ module _ {A : Type 0} (rows_of_lem : A → List Row) (kind : LadderKind) where
       → most ≤ most_rows kind
       → Counts most rec word × (pos count ≡ word_at rec.part word)
       → take count all ≡ rows_from rec.part from count
-      → Made rows_of_lem kind (take (count - 0) all) made
+      → Made rows_of kind (take (count - 0) all) made
       → answer ≡ result_ok made
-      → Reads rows_of_lem (Counts most rec word × AllGood kind (rows_from rec.part from (nat_abs (word_at rec.part word))))
+      → Reads rows_of (Counts most rec word × AllGood kind (rows_from rec.part from (nat_abs (word_at rec.part word))))
       (rows_from rec.part from (nat_abs (word_at rec.part word))) answer
   ladder_read rec from word most count all made answer short counted rows_are is answer-is =
       let told = nat_abs (word_at rec.part word) in
@@ -42,8 +42,8 @@ module _ {A : Type 0} (rows_of_lem : A → List Row) (kind : LadderKind) where
       let long : length (rows_from rec.part from told) ≡ told = length-map-range_with_len (row_of rec.part from) 0 told in
       let bound : count ≤ most = omega (arith, ints, counted.0.2, counted.1) in
       let few : length (rows_from rec.part from told) ≤ most_rows kind = omega arith in
-      let is_told = subst (λ (rs : List Row). Made rows_of_lem kind rs made) rows_same is in
+      let is_told = subst (λ (rs : List Row). Made rows_of kind rs made) rows_same is in
       subst
-      (λ (o : Option A). Reads rows_of_lem (Counts most rec word × AllGood kind (rows_from rec.part from told)) (rows_from rec.part from told) o)
+      (λ (o : Option A). Reads rows_of (Counts most rec word × AllGood kind (rows_from rec.part from told)) (rows_from rec.part from told) o)
       (sym answer-is)
       (made_reads (rows_from rec.part from told) (Counts most rec word) made few counted.0 is_told)
