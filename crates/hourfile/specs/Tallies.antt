@@ -1,5 +1,5 @@
 -- What a block, or the blocks of a place, come to.
-use Rattle.std.specs.Prelude.{◌≡◌, ℕ, ◌<◌, true, List, get_or, ℤ, pos, slice_index_or}
+use Rattle.std.specs.Prelude.{◌≡◌, ℕ, ◌<◌, true, List, ℤ, pos, slice_index_or}
 use Rattle.blocks.specs.Records.{Opened}
 use Rattle.blocks.specs.declared.kind.Kind.TheVariants as kinds
 use Rattle.records.specs.Contents.{has_position, has_virtual_position}
@@ -38,7 +38,7 @@ HasMeaning rec = (rec.kind ≡ kinds.Resource → has_position rec ≡ true) × 
 -- The tallies of the places, over the first blocks of a file and over all of them.
 pub record TalliedUpto (file : List ℕ) (tallies : List Tally) (blocks : ℕ) : Type 0 where
   pub grains : (place : ℕ) (line : Line) → place < 32 → grains_on (slice_index_or tallies place no_tally) line ≡ line_grains file place line blocks
-  pub withdrawn : (place : ℕ) → place < 32 → (get_or tallies place no_tally).withdrawn ≡ place_withdrawn file place blocks
+  pub withdrawn : (place : ℕ) → place < 32 → (slice_index_or tallies place no_tally).withdrawn ≡ place_withdrawn file place blocks
 
 abbrev pub Tallied : List ℕ → List Tally → Type 0
 Tallied file tallies = TalliedUpto file tallies (blocks_in file)

@@ -1,6 +1,6 @@
 //! What an hour comes to: the eight lines of every place.
 
-ghost use Rattle.std.specs.Prelude.{◌≡◌, ℕ, ◌+◌, ◌<◌, ◌≤◌, length, get_or, replicate, pos, IfOk, slice_index, slice_index_or, unsigned_abs};
+ghost use Rattle.std.specs.Prelude.{◌≡◌, ℕ, ◌+◌, ◌<◌, ◌≤◌, length, replicate, pos, IfOk, slice_index, slice_index_or, unsigned_abs};
 ghost use Rattle.blocks.specs.Lone.{verdict_in};
 ghost use Rattle.hourfile.specs.Files.{file_verdict};
 ghost use Rattle.hourfile.specs.HourAnswers.{Settles};
@@ -62,7 +62,7 @@ fn own_lines(tallies: &[Tally; 32], owners: Owners) -> [Lines; 33]
 /// What the owners withdrew.
 fn withdrawals(tallies: &[Tally; 32], owners: Owners) -> Withdrawals
     ensures count { result.owners ≡ owners.number }
-    ensures quantities { (place : ℕ) → place < owners.number → slice_index result.quantities place ≡ (get_or tallies.now place no_tally).withdrawn }
+    ensures quantities { (place : ℕ) → place < owners.number → slice_index result.quantities place ≡ (slice_index_or tallies.now place no_tally).withdrawn }
 {
     let mut quantities = [0; 32];
     for place in 0..owners.number as usize {
