@@ -45,18 +45,25 @@ abbrev pub row_before : List Row → ℕ → Option Row
 row_before rows zero = None
 row_before rows (suc row) = Some (row_at rows row)
 
+-- A row is good after another, or as the first one.
+abbrev pub good_after : LadderKind → Option Row → Row → Bool
+good_after kind before row = in_range kind row && in_step kind before row
+
 -- A row is good where it stands.
 abbrev pub good : LadderKind → List Row → ℕ → Bool
-good kind rows row = in_range kind (row_at rows row) && in_step kind (row_before rows row) (row_at rows row)
+good kind rows row = good_after kind (row_before rows row) (row_at rows row)
 
 abbrev pub AllGood : LadderKind → List Row → Type 0
 AllGood kind rows = (row : ℕ) → row < length rows → good kind rows row ≡ true
 
+-- A row is the first bad one.
+abbrev pub FirstBad : LadderKind → List Row → ℕ → Type 0
+FirstBad kind rows row = (row < length rows) × (good kind rows row ≡ false) × ((before : ℕ) → before < row → good kind rows before ≡ true)
+
 -- What is wrong with rows that make no ladder: there are too many, or which is the first bad one.
 abbrev pub FirstFault : LadderKind → List Row → LadderFault → Type 0
 FirstFault kind rows TooManyRows = most_rows kind < length rows
-FirstFault kind rows (BadRow row) = (length rows ≤ most_rows kind) × (row < length rows) × (good kind rows row ≡ false)
-    × ((before : ℕ) → before < row → good kind rows before ≡ true)
+FirstFault kind rows (BadRow row) = (length rows ≤ most_rows kind) × FirstBad kind rows row
 
 -- What the making of a ladder of some rows answers: the ladder of just these rows, or their first fault.
 abbrev pub Made : {A : Type 0} → (A → List Row) → LadderKind → List Row → Result A LadderFault → Type 0

@@ -57,13 +57,10 @@ pub fn economic_point<L: Ladder>(ladder: &L, price: i32) -> u32
     ensures law { PointLaw (L.means ladder.now) price result }
     ensures bound { result ≤ 1000 }
 {
-    let mut point = 0;
-    for row in 0..ladder.rows() {
-        if ladder.gain(price, row) >= 0 {
-            point = ladder.end(row);
-        }
-    }
-    point
+    (0..ladder.rows())
+        .rev()
+        .find(|&row| ladder.gain(price, row) >= 0)
+        .map_or(0, |row| ladder.end(row))
 }
 
 /// The profit at the economic point, which no quantity exceeds.

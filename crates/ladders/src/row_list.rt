@@ -12,4 +12,22 @@ pub(crate) struct RowList {
     ghost few: { count ≤ 20 },
 }
 
-pub(crate) mod reading;
+impl RowList {
+    ghost use Rattle.ladders.specs.RowLists.{listed};
+
+    pub(crate) fn from_slice(rows: &[Row]) -> RowList
+        requires { length rows.now ≤ 20 }
+        ensures { listed result ≡ rows.now }
+    {
+        let mut all = [Row { price: 0, end: 0 }; 20];
+        let count = rows.len();
+        all[..count].copy_from_slice(rows);
+        RowList { rows: all, count }
+    }
+
+    pub(crate) fn as_slice(&self) -> &[Row]
+        ensures { result.now ≡ listed self.now }
+    {
+        &self.rows[..self.count]
+    }
+}

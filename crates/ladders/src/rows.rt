@@ -1,9 +1,15 @@
 //! Rows as a site writes them, and which of them make a ladder.
 
-ghost use Rattle.std.specs.Prelude.{◌≡◌, ℕ, ◌<◌, ◌≤◌, length, MatchResult, unsigned_abs};
-ghost use Rattle.ladders.specs.Rows.{AllGood, FirstFault, follows, gained, in_range, in_step, lowest_price, most_rows};
+ghost use Rattle.std.specs.Prelude.{◌≡◌, ℕ, ◌<◌, ◌≤◌, length, MatchOption, MatchResult, unsigned_abs};
+ghost use Rattle.ladders.specs.Rows.{AllGood, FirstBad, FirstFault, follows, gained, good_after, in_range, in_step, lowest_price, most_rows};
 
-use std::fmt;
+use std::{fmt, iter};
+
+/// The highest price of each kind of ladder.
+const HIGHEST_PRICE: i32 = 200_000;
+
+/// The highest end of a row.
+const HIGHEST_END: i32 = 1_000;
 
 /// A row: its price in cents per MWh, and its end in tenths of a MW.
 #[derive(Clone, Copy, Debug, PartialEq, Eq)]
@@ -73,7 +79,7 @@ impl LadderKind {
     fn in_range(self, row: Row) -> bool
         ensures { result ≡ in_range self row }
     {
-        self.lowest_price() <= row.price && row.price <= 200_000 && row.end <= 1_000
+        (self.lowest_price()..=HIGHEST_PRICE).contains(&row.price) && row.end <= HIGHEST_END
     }
 
     /// Whether a row may stand after another, or first.
@@ -84,6 +90,13 @@ impl LadderKind {
             None => 0 < row.end,
             Some(last) => last.end < row.end && self.follows(last.price, row.price),
         }
+    }
+
+    /// Whether a row is good after another, or as the first one.
+    fn is_good_after(self, before: Option<Row>, row: Row) -> bool
+        ensures { result ≡ good_after self before row }
+    {
+        self.in_range(row) && self.in_step(before, row)
     }
 
     /// What a row of this price gains: an offer's the price less the row's price, and a bid's the other way round.
@@ -98,6 +111,16 @@ impl LadderKind {
         }
     }
 
+    /// The first bad row, counted from 0.
+    fn first_bad(self, rows: &[Row]) -> Option<usize>
+        ensures { MatchOption result (AllGood self rows.now) (FirstBad self rows.now) }
+    {
+        let befores = iter::once(None).chain(rows.iter().copied().map(Some));
+        befores
+            .zip(rows)
+            .position(|(before, row)| !self.is_good_after(before, *row))
+    }
+
     /// Looks for the first fault of rows that are to make a ladder of this kind.
     pub fn check(self, rows: &[Row]) -> Result<(), LadderFault>
         ensures { MatchResult result (λ _. (length rows.now ≤ most_rows self) × AllGood self rows.now) (FirstFault self rows.now) }
@@ -105,13 +128,9 @@ impl LadderKind {
         if rows.len() > self.most_rows() {
             return Err(LadderFault::TooManyRows);
         }
-        let mut before = None;
-        for (index, row) in rows.iter().enumerate() {
-            if !self.in_range(*row) || !self.in_step(before, *row) {
-                return Err(LadderFault::BadRow(index));
-            }
-            before = Some(*row);
+        match self.first_bad(rows) {
+            Some(row) => Err(LadderFault::BadRow(row)),
+            None => Ok(()),
         }
-        Ok(())
     }
 }
