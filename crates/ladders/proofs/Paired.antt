@@ -1,7 +1,8 @@
 -- Each row beside the row before it.
-use Rattle.std.proofs.Common.{◌≡◌, ℕ, zero, suc, ◌<◌, Bool, true, false, List, [], ◌∷◌, length, map, get_or, Some, None, Option, MatchOption, refl, ap, sym, ◌∙◌, arith}
+use Rattle.std.proofs.Common.{◌≡◌, ℕ, zero, suc, ◌<◌, ◌≤◌, Bool, true, false, List, [], ◌∷◌, length, map, get_or, Some, None, Option, MatchOption, refl, ap, sym, ◌∙◌, arith}
 use Rattle.std.specs.List.{AllWithin, HoldsAt, zip}
-use Rattle.ladders.specs.Rows.{AllGood, FirstBad, good, good_after, no_row, row_at, row_before}
+use Rattle.ladders.specs.Rows.{AllGood, FirstFault, good, good_after, most_rows, no_row, row_at, row_before}
+use Rattle.ladders.specs.declared.rows.LadderFault.TheVariants.{BadRow}
 use Rattle.ladders.specs.declared.rows.LadderKind.{LadderKind}
 use Rattle.ladders.specs.declared.rows.Row.{Row}
 
@@ -35,13 +36,14 @@ module _ (kind : LadderKind) (rows : List Row) where
   same row h = ap is_good (get_or-paired None rows row h) ∙ ap (λ before. is_good (before, row_at rows row)) (before_is rows row)
 
   -- the first pair that is not good is at the first bad row
-  pub first_bad : (first : Option ℕ)
+  pub first_bad : (first : Option ℕ) → length rows ≤ most_rows kind
       → MatchOption first (AllWithin (λ pair. is_good pair ≡ true) (paired None rows) 0 (length (paired None rows)))
       (λ row. (row < length (paired None rows)) × HoldsAt (λ pair. is_good pair ≡ false) (paired None rows) row × AllWithin (λ pair. is_good pair ≡ true) (paired None rows) 0 row)
-      → MatchOption first (AllGood kind rows) (FirstBad kind rows)
-  first_bad None all = λ row h. sym (same row h) ∙ all row (None, no_row) (omega arith) (omega (arith, length-paired None rows))
-  first_bad (Some row) found =
+      → MatchOption first (AllGood kind rows) (λ row. FirstFault kind rows (BadRow row))
+  first_bad None few all = λ row h. sym (same row h) ∙ all row (None, no_row) (omega arith) (omega (arith, length-paired None rows))
+  first_bad (Some row) few found =
       let there : row < length rows = omega (arith, length-paired None rows, found.0) in (
+        few,
         there,
         sym (same row there) ∙ found.1 (None, no_row),
         λ before h. sym (same before (omega arith)) ∙ found.2 before (None, no_row) (omega arith) (omega arith),

@@ -56,14 +56,11 @@ good kind rows row = good_after kind (row_before rows row) (row_at rows row)
 abbrev pub AllGood : LadderKind → List Row → Type 0
 AllGood kind rows = (row : ℕ) → row < length rows → good kind rows row ≡ true
 
--- A row is the first bad one.
-abbrev pub FirstBad : LadderKind → List Row → ℕ → Type 0
-FirstBad kind rows row = (row < length rows) × (good kind rows row ≡ false) × ((before : ℕ) → before < row → good kind rows before ≡ true)
-
 -- What is wrong with rows that make no ladder: there are too many, or which is the first bad one.
 abbrev pub FirstFault : LadderKind → List Row → LadderFault → Type 0
 FirstFault kind rows TooManyRows = most_rows kind < length rows
-FirstFault kind rows (BadRow row) = (length rows ≤ most_rows kind) × FirstBad kind rows row
+FirstFault kind rows (BadRow row) = (length rows ≤ most_rows kind) × (row < length rows) × (good kind rows row ≡ false)
+    × ((before : ℕ) → before < row → good kind rows before ≡ true)
 
 -- What the making of a ladder of some rows answers: the ladder of just these rows, or their first fault.
 abbrev pub Made : {A : Type 0} → (A → List Row) → LadderKind → List Row → Result A LadderFault → Type 0

@@ -1,14 +1,14 @@
 //! Ladders that are made of rows, of one kind each.
 
-ghost use Rattle.std.specs.Prelude.{◌≤◌, length};
-ghost use Rattle.ladders.specs.Rows.{AllGood, Made, most_rows, row_ladder};
+ghost use Rattle.std.specs.Prelude.{◌≡◌, ◌<◌, ◌≤◌, length, unsigned_abs, IfSome, MatchOption};
+ghost use Rattle.ladders.specs.Rows.{AllGood, Made, most_rows, row_at, row_ladder};
 ghost use Rattle.ladders.specs.RowLists.{listed};
 ghost use Rattle.ladders.specs.Lawfuls.{row_lawful};
 ghost use Rattle.ladders.specs.declared.rows.LadderKind.{LadderKind};
 
 use crate::ladder::Ladder;
 use crate::row_list::RowList;
-use crate::rows::{LadderFault, LadderKind, Row};
+use crate::rows::{HIGHEST_PRICE, LOWEST_PRICE, LadderFault, LadderKind, Row};
 use std::alloc::AllocError;
 use std::marker::PhantomData;
 
@@ -48,6 +48,14 @@ impl<K: RowKind> RowLadder<K> {
             of: PhantomData,
         })
     }
+
+    /// A row, if it is there. Its price is one that a ladder may have.
+    fn row(&self, row: usize) -> Option<&Row>
+        ensures found { MatchOption result (length (rows_of self.now) ≤ row) (λ here. (row < length (rows_of self.now)) × (here.now ≡ row_at (rows_of self.now) row)) }
+        ensures near { IfSome result (λ here. unsigned_abs here.now.price ≤ 200000) }
+    {
+        self.list.as_slice().get(row)
+    }
 }
 
 impl<K: RowKind> Ladder for RowLadder<K> {
@@ -62,15 +70,12 @@ impl<K: RowKind> Ladder for RowLadder<K> {
     }
 
     fn end(&self, row: usize) -> u32 {
-        self.list
-            .as_slice()
-            .get(row)
-            .map_or(0, |row| row.end.unsigned_abs())
+        self.row(row).map_or(0, |row| row.end.unsigned_abs())
     }
 
     fn gain(&self, price: i32, row: usize) -> i32 {
-        match self.list.as_slice().get(row) {
-            Some(row) => K::KIND.gain(price.clamp(-200_000, 200_000), row.price),
+        match self.row(row) {
+            Some(row) => K::KIND.gain(price.clamp(LOWEST_PRICE, HIGHEST_PRICE), row.price),
             None => 0,
         }
     }

@@ -1,14 +1,18 @@
 //! Rows as a site writes them, and which of them make a ladder.
 
 ghost use Rattle.std.specs.Prelude.{◌≡◌, ℕ, ◌<◌, ◌≤◌, length, MatchOption, MatchResult, unsigned_abs};
-ghost use Rattle.ladders.specs.Rows.{AllGood, FirstBad, FirstFault, follows, gained, good_after, in_range, in_step, lowest_price, most_rows};
+ghost use Rattle.ladders.specs.Rows.{AllGood, FirstFault, follows, gained, good_after, in_range, in_step, lowest_price, most_rows};
+ghost use Rattle.ladders.specs.declared.rows.LadderFault.TheVariants.{BadRow};
 
 use std::{fmt, iter};
 
-/// The highest price of each kind of ladder.
-const HIGHEST_PRICE: i32 = 200_000;
+/// The lowest price there is, in cents per MWh.
+pub(crate) const LOWEST_PRICE: i32 = -200_000;
 
-/// The highest end of a row.
+/// The highest price there is, in cents per MWh.
+pub(crate) const HIGHEST_PRICE: i32 = 200_000;
+
+/// The highest end of a row, in tenths of a MW.
 const HIGHEST_END: i32 = 1_000;
 
 /// A row: its price in cents per MWh, and its end in tenths of a MW.
@@ -60,7 +64,7 @@ impl LadderKind {
         ensures { result ≡ lowest_price self }
     {
         match self {
-            LadderKind::Offer | LadderKind::Bid => -200_000,
+            LadderKind::Offer | LadderKind::Bid => LOWEST_PRICE,
             LadderKind::Reserve => 0,
         }
     }
@@ -113,7 +117,8 @@ impl LadderKind {
 
     /// The first bad row, counted from 0.
     fn first_bad(self, rows: &[Row]) -> Option<usize>
-        ensures { MatchOption result (AllGood self rows.now) (FirstBad self rows.now) }
+        requires { length rows.now ≤ most_rows self }
+        ensures { MatchOption result (AllGood self rows.now) (λ row. FirstFault self rows.now (BadRow row)) }
     {
         let befores = iter::once(None).chain(rows.iter().copied().map(Some));
         befores

@@ -9,7 +9,7 @@ pub returns : goal.returns
 returns c =
     let kind = c.args.self in
     let rows = c.args.rows.now in
-    first_bad kind rows c.position.result
+    first_bad kind rows c.position.result c.requires
     (IsFirst-from_position c.position.new.self _ _ (λ pair. is_good kind rows pair ≡ false) (λ pair. is_good kind rows pair ≡ true) c.position.ensures.ran
     (YieldsList-from_zip
     (YieldsList-at c.zip.ensures.first
