@@ -39,7 +39,7 @@ module _ (kind : LadderKind) (rows : List Row) (all : AllGood kind rows) where
   ranged : (row : ℕ) → row < length rows → (lowest_price kind ≤ℤ price row) × (price row ≤ℤ pos 200000) × (end row ≤ℤ pos 1000)
   ranged row h = let g = all row h in (grind (arith, ints), grind (arith, ints), grind (arith, ints))
 
-  price_within : (row : ℕ) → row < length rows → nat_abs (price row) ≤ 200000
+  pub price_within : (row : ℕ) → row < length rows → nat_abs (price row) ≤ 200000
   price_within row h = let r = ranged row h in omega (arith, ints, lowest_is kind, r.0, r.1)
 
   risen : (row : ℕ) → suc row < length rows → (end row <ℤ end (suc row)) × (follows kind (price row) (price (suc row)) ≡ true)

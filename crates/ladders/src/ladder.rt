@@ -6,6 +6,7 @@ ghost use Rattle.ladders.specs.Ladder.{profit as profit_on};
 
 /// Every ladder there can be: rows, counted from 0, each with an end in tenths of a MW and, at every price in cents per MWh, a gain.
 /// Its laws say what a ladder has to show, and no question alters it.
+// A row that isn't there has end 0 and gain 0, and not `None`: the ladders that a site brings implement the trait as it stands.
 pub trait Ladder {
     ghost means: { Self → Rows };
 
