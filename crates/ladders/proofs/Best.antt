@@ -1,10 +1,13 @@
 -- On a lawful ladder no quantity earns more than the economic point.
-use Rattle.std.proofs.Common.{◌≡◌, ℕ, zero, suc, ◌+◌, ◌*◌, ◌<◌, ◌≤◌, Bool, true, false, ℤ, pos, negsuc, ◌+ℤ◌, ◌*ℤ◌, ◌≤ℤ◌, ◌<ℤ◌, refl, ◌∙◌, ⊎_elim, add-one, arith}
+use Rattle.std.proofs.Common.{◌≡◌, ℕ, zero, suc, ◌*◌, ◌<◌, ◌≤◌, Bool, true, false, ℤ, pos, negsuc, ◌+ℤ◌, ◌*ℤ◌, ◌≤ℤ◌, ◌<ℤ◌, Some, None, Option, MatchOption, sym, refl, ◌∙◌, ⊎_elim, arith}
 use lib.Signed.{le_z}
 use borrow.Author.Differences.{ints}
+use Rattle.std.specs.List.{find}
+use Rattle.std.specs.Option.{option_map}
 use Rattle.std.proofs.lemmas.Nat.{mul-le}
 use Rattle.std.proofs.lemmas.Bool.{cases_lt, cases_Bool}
 use Rattle.ladders.specs.Ladder.{Rows, Lawful, PointLaw, start, inside, earned, point_among, economic_point}
+use Rattle.ladders.proofs.Downward.{downward}
 use Rattle.ladders.proofs.Profits.{earned_none, earned_suc, ends_rise, last_short}
 
 -- ---- a turn of the loop
@@ -20,11 +23,20 @@ point_no : (rows : Rows) (price : ℤ) (row : ℕ) → le_z (pos 0) (rows.gain p
 unfolding point_among
 point_no rows price row h = rw h
 
-pub point_more_yes : (rows : Rows) (price : ℤ) (row : ℕ) → le_z (pos 0) (rows.gain price row) ≡ true → point_among rows price (row + 1) ≡ rows.end row
-point_more_yes rows price row h = rw add-one (point_yes rows price row h)
+found_here : (rows : Rows) (n : ℕ) (row : Option ℕ) (point : ℕ) → option_map (λ k. k) row ≡ Some n → MatchOption row (point ≡ 0) (λ k. point ≡ rows.end k) → point ≡ rows.end n
+found_here rows n None point e is = absurd (cc)
+found_here rows n (Some k) point e is = cc
 
-pub point_more_no : (rows : Rows) (price : ℤ) (row : ℕ) → le_z (pos 0) (rows.gain price row) ≡ false → point_among rows price (row + 1) ≡ point_among rows price row
-point_more_no rows price row h = rw add-one (point_no rows price row h)
+-- the point by the last row that gains 0 or more, which a search from the back finds first
+pub point_found : (rows : Rows) (price : ℤ) (n : ℕ) (row : Option ℕ) (point : ℕ) → option_map (λ k. k) row ≡ find (λ k. le_z (pos 0) (rows.gain price k)) (downward n)
+    → MatchOption row (point ≡ 0) (λ k. point ≡ rows.end k) → point ≡ point_among rows price n
+point_found rows price zero None point e is = is ∙ sym (point_none rows price)
+point_found rows price zero (Some k) point e is = absurd (cc)
+point_found rows price (suc n) row point e is =
+    ⊎_elim
+    (λ (yes' : le_z (pos 0) (rows.gain price n) ≡ true). found_here rows n row point (rw yes' at e) is ∙ sym (point_yes rows price n yes'))
+    (λ (no' : le_z (pos 0) (rows.gain price n) ≡ false). point_found rows price n row point (rw no' at e) is ∙ sym (point_no rows price n no'))
+    (cases_Bool (le_z (pos 0) (rows.gain price n)))
 
 -- ---- more of what gains is better, and less of what loses
 more_is_better : (gain : ℤ) (m n : ℕ) → le_z (pos 0) gain ≡ true → m ≤ n → (gain *ℤ pos m) ≤ℤ (gain *ℤ pos n)

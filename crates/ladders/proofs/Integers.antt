@@ -1,7 +1,7 @@
 -- Laws of products of integers, and the size of a product.
-use Rattle.std.proofs.Common.{◌≡◌, ℕ, suc, ◌+◌, ◌-◌, ◌*◌, ◌≤◌, ℤ, pos, negsuc, ◌+ℤ◌, ◌-ℤ◌, ◌*ℤ◌, neg_ℤ, nat_abs, ◌≤ℤ◌, sym, refl, ap, subst, mul-le-mul, arith}
+use Rattle.std.proofs.Common.{◌≡◌, ℕ, suc, ◌+◌, ◌-◌, ◌*◌, ◌≤◌, ℤ, pos, ◌+ℤ◌, ◌-ℤ◌, ◌*ℤ◌, nat_abs, ◌≤ℤ◌, sym, ap, subst, mul-le-mul, arith}
 use Rattle.std.specs.Int.{int_max}
-use Rattle.std.proofs.lemmas.Int.{clamps}
+use Rattle.std.proofs.lemmas.Int.{clamps, unsigned_abs-mul}
 use borrow.Author.Differences.{up, down, same_in, sum_is_lem, product_is, ints}
 
 -- a product with a sum
@@ -26,19 +26,9 @@ times_assoc a b c =
     let q4 = ap (λ x. down a * x) q.1 in
     omega (arith, same_in, product_is)
 
-nat_abs_neg : (z : ℤ) → nat_abs (neg_ℤ z) ≡ nat_abs z
-nat_abs_neg z = omega (arith, ints)
-
--- the size of a product is the product of the sizes
-nat_abs_product : (a b : ℤ) → nat_abs (a *ℤ b) ≡ nat_abs a * nat_abs b
-nat_abs_product (pos a) (pos b) = refl
-nat_abs_product (pos a) (negsuc b) = nat_abs_neg (pos (a * suc b))
-nat_abs_product (negsuc a) (pos b) = nat_abs_neg (pos (suc a * b))
-nat_abs_product (negsuc a) (negsuc b) = refl
-
 -- |a| ≤ m and |b| ≤ n give |a × b| ≤ m × n
 pub product_within : (m n : ℕ) (a b : ℤ) → nat_abs a ≤ m → nat_abs b ≤ n → nat_abs (a *ℤ b) ≤ m * n
-product_within m n a b h k = subst (λ (x : ℕ). x ≤ m * n) (sym (nat_abs_product a b)) (mul-le-mul h k)
+product_within m n a b h k = subst (λ (x : ℕ). x ≤ m * n) (sym (unsigned_abs-mul a b)) (mul-le-mul h k)
 
 -- a product with one more
 pub times_suc : (a : ℤ) (n : ℕ) → a *ℤ pos (suc n) ≡ a *ℤ pos n +ℤ a

@@ -6,6 +6,7 @@ ghost use Rattle.ladders.specs.Ladder.{profit as profit_on};
 
 /// Every ladder there can be: rows, counted from 0, each with an end in tenths of a MW and, at every price in cents per MWh, a gain.
 /// Its laws say what a ladder has to show, and no question alters it.
+// A row that isn't there has end 0 and gain 0, and not `None`: the ladders that a site brings implement the trait as it stands.
 pub trait Ladder {
     ghost means: { Self → Rows };
 
@@ -41,6 +42,7 @@ pub fn profit<L: Ladder>(ladder: &L, price: i32, quantity: u64) -> i64
     ensures law { ProfitLaw (L.means ladder.now) price }
     ensures bound { unsigned_abs result ≤ 40000000000 }
 {
+    // Two values run along, the profit and where the row starts: a `fold` of the pair would be no plainer.
     let mut profit: i64 = 0;
     let mut from: u64 = 0;
     for row in 0..ladder.rows() {
@@ -57,13 +59,10 @@ pub fn economic_point<L: Ladder>(ladder: &L, price: i32) -> u32
     ensures law { PointLaw (L.means ladder.now) price result }
     ensures bound { result ≤ 1000 }
 {
-    let mut point = 0;
-    for row in 0..ladder.rows() {
-        if ladder.gain(price, row) >= 0 {
-            point = ladder.end(row);
-        }
-    }
-    point
+    (0..ladder.rows())
+        .rev()
+        .find(|&row| ladder.gain(price, row) >= 0)
+        .map_or(0, |row| ladder.end(row))
 }
 
 /// The profit at the economic point, which no quantity exceeds.

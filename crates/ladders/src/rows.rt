@@ -1,19 +1,29 @@
 //! Rows as a site writes them, and which of them make a ladder.
 
-ghost use Rattle.std.specs.Prelude.{◌≡◌, ℕ, ◌<◌, ◌≤◌, length, MatchResult};
-ghost use Rattle.ladders.specs.Rows.{AllGood, FirstFault, follows, in_range, in_step, lowest_price, most_rows};
+ghost use Rattle.std.specs.Prelude.{◌≡◌, ℕ, ◌<◌, ◌≤◌, length, MatchOption, MatchResult, unsigned_abs};
+ghost use Rattle.ladders.specs.Rows.{AllGood, FirstFault, follows, gained, good_after, in_range, in_step, lowest_price, most_rows};
+ghost use Rattle.ladders.specs.declared.rows.LadderFault.TheVariants.{BadRow};
 
-use std::fmt;
+use std::{fmt, iter};
+
+/// The lowest price there is, in cents per MWh.
+pub(crate) const LOWEST_PRICE: i32 = -200_000;
+
+/// The highest price there is, in cents per MWh.
+pub(crate) const HIGHEST_PRICE: i32 = 200_000;
+
+/// The highest end of a row, in tenths of a MW.
+const HIGHEST_END: i32 = 1_000;
 
 /// A row: its price in cents per MWh, and its end in tenths of a MW.
-#[derive(Clone, Copy)]
+#[derive(Clone, Copy, Debug, PartialEq, Eq)]
 pub struct Row {
     pub price: i32,
     pub end: i32,
 }
 
 /// The ladders that are made of rows.
-#[derive(Clone, Copy)]
+#[derive(Clone, Copy, Debug, PartialEq, Eq)]
 pub enum LadderKind {
     Offer,
     Bid,
@@ -54,7 +64,7 @@ impl LadderKind {
         ensures { result ≡ lowest_price self }
     {
         match self {
-            LadderKind::Offer | LadderKind::Bid => -200_000,
+            LadderKind::Offer | LadderKind::Bid => LOWEST_PRICE,
             LadderKind::Reserve => 0,
         }
     }
@@ -73,7 +83,7 @@ impl LadderKind {
     fn in_range(self, row: Row) -> bool
         ensures { result ≡ in_range self row }
     {
-        self.lowest_price() <= row.price && row.price <= 200_000 && row.end <= 1_000
+        (self.lowest_price()..=HIGHEST_PRICE).contains(&row.price) && row.end <= HIGHEST_END
     }
 
     /// Whether a row may stand after another, or first.
@@ -86,6 +96,36 @@ impl LadderKind {
         }
     }
 
+    /// Whether a row is good after another, or as the first one.
+    fn is_good_after(self, before: Option<Row>, row: Row) -> bool
+        ensures { result ≡ good_after self before row }
+    {
+        self.in_range(row) && self.in_step(before, row)
+    }
+
+    /// What a row of this price gains: an offer's the price less the row's price, and a bid's the other way round.
+    pub(crate) fn gain(self, price: i32, row_price: i32) -> i32
+        requires near { unsigned_abs price ≤ 200000 }
+        requires row_near { unsigned_abs row_price ≤ 200000 }
+        ensures { result ≡ gained self price row_price }
+    {
+        match self {
+            LadderKind::Offer | LadderKind::Reserve => price - row_price,
+            LadderKind::Bid => row_price - price,
+        }
+    }
+
+    /// The first bad row, counted from 0.
+    fn first_bad(self, rows: &[Row]) -> Option<usize>
+        requires { length rows.now ≤ most_rows self }
+        ensures { MatchOption result (AllGood self rows.now) (λ row. FirstFault self rows.now (BadRow row)) }
+    {
+        let befores = iter::once(None).chain(rows.iter().copied().map(Some));
+        befores
+            .zip(rows)
+            .position(|(before, row)| !self.is_good_after(before, *row))
+    }
+
     /// Looks for the first fault of rows that are to make a ladder of this kind.
     pub fn check(self, rows: &[Row]) -> Result<(), LadderFault>
         ensures { MatchResult result (λ _. (length rows.now ≤ most_rows self) × AllGood self rows.now) (FirstFault self rows.now) }
@@ -93,13 +133,9 @@ impl LadderKind {
         if rows.len() > self.most_rows() {
             return Err(LadderFault::TooManyRows);
         }
-        let mut before = None;
-        for (index, row) in rows.iter().enumerate() {
-            if !self.in_range(*row) || !self.in_step(before, *row) {
-                return Err(LadderFault::BadRow(index));
-            }
-            before = Some(*row);
+        match self.first_bad(rows) {
+            Some(row) => Err(LadderFault::BadRow(row)),
+            None => Ok(()),
         }
-        Ok(())
     }
 }

@@ -1,26 +1,13 @@
 use Rattle.std.proofs.Common.{◌≡◌, ◌+◌, ◌-◌, ◌+ℤ◌, nat_abs, sym, ap, ◌∙◌, arith, w32, w64, SFits, to_z, of_z, rules}
 use borrow.Author.Differences.{ints}
 use Rattle.std.proofs.lemmas.Int.{to_z-of_z}
-use Rattle.ladders.specs.Ladder.{earned, inside, profit}
+use Rattle.ladders.specs.Ladder.{earned, inside}
 use Rattle.ladders.proofs.Profits.{earned_none, earned_more, earned_within, last_short, profit_law, start_more}
 use Rattle.ladders.proofs.ladder.profit.Given as given
 use Rattle.ladders.proofs.ladder.profit.Goals as goal
 
 pub loop-row-init : goal.loop-row-init
 loop-row-init g c = (sym (earned_none _ _ _), omega arith)
-
-pub overflow_sub-to : goal.overflow_sub-to
-overflow_sub-to g c =
-    let rise = (g.met.L.Ladder.lawful c.args.ladder.now).rising c.loop-row.row (omega arith) in
-    omega arith
-
-pub row_profit-profit-requires : goal.row_profit-profit-requires
-row_profit-profit-requires g c =
-    let lawful = g.met.L.Ladder.lawful c.args.ladder.now in
-    let fits : SFits w32 c.gain.result = search rules in
-    let small = lawful.bounded (to_z w32 (of_z w32 c.args.price)) c.loop-row.row in
-    let short = lawful.short c.loop-row.row (omega arith) in
-    simp to_z-of_z (record { small = rw c.gain.ensures small; inner = omega arith })
 
 -- a turn adds what the row earns
 more : (g : given.Over) (c : goal.After-row_profit-profit g) → c.loop-row.profit +ℤ c.row_profit-profit.result ≡ earned (g.L.Ladder.means c.args.ladder.now) c.args.price c.args.quantity (c.loop-row.row + 1)
@@ -53,14 +40,14 @@ loop-row-preserved g c =
     let fits_row : SFits w64 c.row_profit-profit.result = search rules in
     simp (c.loop-row.profit-is, to_z-of_z) (more g c, rw start_more (omega arith))
 
-pub returns : goal.returns
-returns g c =
-    let rows = g.L.Ladder.means c.args.ladder.now in
+pub returns-clause-law : goal.returns-clause-law
+returns-clause-law g c = profit_law (g.met.L.Ladder.lawful c.args.ladder.now) c.args.price
+
+pub returns-clause-bound : goal.returns-clause-bound
+returns-clause-bound g c =
     let lawful = g.met.L.Ladder.lawful c.args.ladder.now in
+    let short = last_short lawful c.args.price c.loop-row.row (omega arith) in
+    let size = earned_within lawful c.args.price c.loop-row.row c.args.quantity (omega arith) in
     let fits = c.ranges.price in
-    let all : c.loop-row.row ≡ rows.count = omega arith in
-    let inv : c.loop-row.profit ≡ earned rows c.args.price c.args.quantity c.loop-row.row = sym c.loop-row.profit-is ∙ simp to_z-of_z at c.loop-row.invariant.0 in
-    let value : c.loop-row.profit ≡ profit rows c.args.price c.args.quantity = inv ∙ ap (earned rows c.args.price c.args.quantity) all in
-    let short = last_short lawful c.args.price rows.count (omega arith) in
-    let size = earned_within lawful c.args.price rows.count c.args.quantity (omega arith) in
-    rw c.loop-row.profit-is (record { value = value; law = profit_law lawful c.args.price; bound = rw value (omega arith) })
+    let is = simp to_z-of_z at c.loop-row.invariant.0 in
+    omega (arith, ints, ap nat_abs is)
