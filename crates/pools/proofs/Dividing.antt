@@ -124,15 +124,13 @@ pub record Upto (pool : ℤ) (weight : ℕ → ℕ) (whole : ℕ) (shares : List
 pub upto_none : (pool : ℤ) (weight : ℕ → ℕ) (whole : ℕ) → Upto pool weight whole (replicate 32 (pos 0)) 0
 upto_none pool weight whole = record { exact = λ place h. absurd (omega arith); others = λ place h. zeros 32 place }
 
-pub upto_more : (pool : ℤ) (weight : ℕ → ℕ) (whole place running next : ℕ) (reached reaches : ℤ) (shares : List ℤ)
-    → running ≡ before weight place → next ≡ running + weight place
-    → reached ≡ falls_to pool running whole → reaches ≡ falls_to pool next whole
-    → place < length shares → Upto pool weight whole shares place
-    → Upto pool weight whole (set shares place (reaches -ℤ reached)) (place + 1)
-upto_more pool weight whole place running next reached reaches shares e₁ e₂ e₃ e₄ room upto = record {
+pub upto_more : (pool : ℤ) (weight : ℕ → ℕ) (whole place : ℕ) (share : ℤ) (shares : List ℤ)
+    → share ≡ share_of pool weight whole place → place < length shares
+    → Upto pool weight whole shares place → Upto pool weight whole (set shares place share) (place + 1)
+upto_more pool weight whole place share shares is room upto = record {
   exact = below_more _ _
       (λ k h. let ne : k ≢ place = omega arith in rw get_or-set_other (upto.exact k h))
-      (rw get_or-set_same (rw (e₄, e₃, e₂, e₁, before_suc weight place)));
+      (rw get_or-set_same is);
   others = λ k h. let ne : k ≢ place = omega arith in rw get_or-set_other (upto.others k (omega arith));
 }
 
