@@ -1,7 +1,7 @@
 -- Running sums of weights.
-use Rattle.std.proofs.Common.{zero-add, take, length-take-le, get_or-take, add-zero, ◌*◌, List, [], ◌∷◌, length, get_or, ◌≡◌, ℕ, zero, suc, ◌+◌, ◌<◌, ◌≤◌, refl, ⊎_elim, add-one, arith}
-use Rattle.std.proofs.lemmas.Bool.{cases_lt}
+use Rattle.std.proofs.Common.{◌≡◌, ℕ, zero, suc, ◌+◌, ◌*◌, ◌<◌, ◌≤◌, List, [], ◌∷◌, length, get_or, take, refl, ⊎_elim, add-one, add-zero, zero-add, length-take-le, get_or-take, arith}
 use Rattle.std.specs.List.{sum_by, enumerate_from}
+use Rattle.std.proofs.lemmas.Bool.{cases_lt}
 use Rattle.std.proofs.lemmas.List.Sums.{sum_by-cons}
 use Rattle.pools.specs.Sharing.{before, weights}
 

@@ -47,7 +47,9 @@ impl Basis for FixedShares {
     ghost bounded = { Prim.search rules };
 
     fn weight(&self, place: usize, _withdrawn: u32) -> u32 {
-        self.shares.get(place).map_or(0, |&share| share.min(MOST_FIXED))
+        self.shares
+            .get(place)
+            .map_or(0, |&share| share.min(MOST_FIXED))
     }
 }
 

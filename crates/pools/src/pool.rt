@@ -1,8 +1,8 @@
 //! Pools: money that is owed until it is shared out, and how it is shared among the owners, by any basis.
 
-ghost use Rattle.std.specs.Prelude.{◌≡◌, ◌+◌, ◌*◌, ◌<◌, ◌≤◌, ◌+ℤ◌, ◌-ℤ◌, ◌↔◌, IfSome, IsNone, unsigned_abs};
+ghost use Rattle.std.specs.Prelude.{◌≡◌, ◌+◌, ◌≤◌, ℤ, ◌-ℤ◌, SomeIff, unsigned_abs};
 ghost use Rattle.std.specs.Int.NonZero.{non_zero_u32_get};
-ghost use Rattle.pools.specs.Sharing.{Shared, falls_to, weights, before as weight_before};
+ghost use Rattle.pools.specs.Sharing.{Shared, before, falls_to, weights};
 
 use crate::basis::Basis;
 use crate::withdrawals::Withdrawals;
@@ -13,13 +13,12 @@ use std::num::NonZeroU32;
 const MOST: u64 = 14_000_000_000;
 
 /// A struck pool, in cents. It is not `Drop` and only `share` takes it, so what is struck has to be shared.
+#[derive(Debug)]
 pub struct Pool {
     amount: i64,
 }
 
 impl Model for Pool {
-    ghost use Rattle.std.specs.Prelude.{ℤ, ◌≤◌, unsigned_abs};
-
     ghost Value = { ℤ };
 
     ghost view = { λ pool. pool.amount };
@@ -30,9 +29,9 @@ impl Model for Pool {
 impl Pool {
     /// Strikes a pool of this amount; none if the amount is beyond 14,000,000,000 cents either way.
     pub fn strike(amount: i64) -> Option<Pool>
-        ensures beyond { IsNone result ↔ (14000000000 < unsigned_abs amount) }
-        ensures amount { IfSome result (λ pool. pool ≡ amount) }
+        ensures { SomeIff result (unsigned_abs amount ≤ 14000000000) amount }
     {
+        // Not `then_some`: it drops what it was given where the condition fails, and no pool can be dropped.
         if amount.unsigned_abs() <= MOST {
             Some(Pool { amount })
         } else {
@@ -42,7 +41,9 @@ impl Pool {
 }
 
 /// What came of a pool, in cents: the share of each owner, by place, and what the operator takes.
-#[derive(Clone, Copy)]
+///
+/// The shares stand in an array that the value owns, since no library allocates and callers keep what `share` returns.
+#[derive(Clone, Copy, Debug, PartialEq, Eq)]
 pub struct Shares {
     pub owners: [i64; 32],
     pub operator: i64,
@@ -50,7 +51,7 @@ pub struct Shares {
 
 /// The weight of all owners.
 fn whole_weight<B: Basis>(basis: &B, withdrawn: &Withdrawals) -> u32
-    ensures exact { result ≡ weight_before (weights B.weighs basis.now withdrawn.now.quantities) withdrawn.now.owners }
+    ensures exact { result ≡ before (weights B.weighs basis.now withdrawn.now.quantities) withdrawn.now.owners }
     ensures bound { result ≤ 204800000 }
 {
     withdrawn
@@ -61,8 +62,8 @@ fn whole_weight<B: Basis>(basis: &B, withdrawn: &Withdrawals) -> u32
         .sum()
 }
 
-/// A pool that is being divided among owners who weigh something together: the running weight so far, and what has fallen to it.
-#[derive(Clone, Copy)]
+/// A pool on its way to owners who weigh something together: the running weight of those who have their share, and what fell to it.
+#[derive(Drop)]
 struct Division {
     amount: i64,
     whole: NonZeroU32,
@@ -86,7 +87,7 @@ impl Division {
     /// The share of the next owner: what falls to the running weight up to it, less what fell to the weight before it.
     fn next_share(&mut self, weight: u32) -> i64
         requires { self.old.running + weight ≤ non_zero_u32_get self.old.whole }
-        ensures share { result ≡ falls_to self.old.amount (self.old.running + weight) (non_zero_u32_get self.old.whole) -ℤ falls_to self.old.amount self.old.running (non_zero_u32_get self.old.whole) }
+        ensures share { result ≡ falls_to self.old.amount (self.old.running + weight) (non_zero_u32_get self.old.whole) -ℤ self.old.reached }
         ensures running { self.new.running ≡ self.old.running + weight }
         ensures amount { self.new.amount ≡ self.old.amount }
         ensures whole { self.new.whole ≡ self.old.whole }
@@ -120,6 +121,7 @@ pub fn share<B: Basis>(pool: Pool, basis: &B, withdrawn: &Withdrawals) -> Shares
         running: 0,
         reached: 0,
     };
+    // Written by place: of what is written through a `zip` with `iter_mut`, nothing is known after the loop.
     for (place, &quantity) in withdrawn.by_owner().iter().enumerate() {
         owners[place] = division.next_share(basis.weight(place, quantity));
     }

@@ -3,6 +3,8 @@
 ghost use Rattle.std.specs.Prelude.{◌≡◌, ◌≤◌, length, take};
 
 /// The quantity in kWh that each owner withdrew, by place, for up to 32 owners.
+///
+/// They stand in an array that the value owns, since no library allocates and callers return it; `by_owner` reads it as a slice.
 #[derive(Clone, Copy, Debug, PartialEq, Eq)]
 pub struct Withdrawals {
     pub quantities: [u32; 32],

@@ -8,8 +8,10 @@ abbrev pub invariant-loop-place : goal.invariant-loop-place
 invariant-loop-place g l =
     let weight = weights g.B.Basis.weighs l.basis l.withdrawn.quantities in
     let whole = before weight l.withdrawn.owners in
-    (l.division.amount ≡ l.fn.pool)
-    × (non_zero_u32_get l.division.whole ≡ whole)
-    × (l.division.running ≡ before weight l.place)
-    × (length l.owners ≡ 32)
-    × Upto l.fn.pool weight whole l.owners l.place
+    record {
+      amount_is : l.division.amount ≡ l.fn.pool;
+      whole_is : non_zero_u32_get l.division.whole ≡ whole;
+      running_is : l.division.running ≡ before weight l.place;
+      long : length l.owners ≡ 32;
+      upto : Upto l.fn.pool weight whole l.owners l.place;
+    }
