@@ -1,7 +1,8 @@
 -- What falls to a running weight, and the laws of shares.
-use Rattle.std.proofs.Common.{◌≡◌, ℕ, zero, suc, ◌+◌, ◌-◌, ◌*◌, ◌/◌, ◌%◌, ◌<◌, ◌≤◌, ◌≢◌, List, length, get_or, set, replicate, ℤ, pos, ◌+ℤ◌, ◌-ℤ◌, ◌*ℤ◌, nat_abs, sym, refl, ap, ◌∙◌, mul_comm, mul-zero, mul-add, div-mul-le_self, mul-div_cancel, arith, get_or-set_other, get_or-set_same, below_more}
+use Rattle.std.proofs.Common.{◌≡◌, ℕ, zero, suc, ◌+◌, ◌-◌, ◌*◌, ◌/◌, ◌%◌, ◌<◌, ◌≤◌, ◌≢◌, List, length, get_or, set, replicate, ℤ, pos, negsuc, neg_ℤ, ◌+ℤ◌, ◌-ℤ◌, ◌*ℤ◌, nat_abs, sym, refl, ap, ◌∙◌, mul_comm, mul-zero, mul-add, div-mul-le_self, mul-div_cancel, arith, get_or-set_other, get_or-set_same, below_more}
 use native.Mathlib.Nat.{zero-div, div-zero, div-add-mod, div-le_of_le-mul}
 use borrow.Author.Differences.{ints}
+use Rattle.std.specs.Prelude.{int_div}
 use lib.IntN.{+ℤ_idl, +ℤ_idr}
 use Rattle.std.proofs.lemmas.Nat.{mod_below, mul-le, le-div}
 use Rattle.pools.specs.Sharing.{Shared, before, signed_as, falls_to, share_of, operator_part, sum_of}
@@ -9,6 +10,15 @@ use Rattle.pools.proofs.Signs.{signed_whole, signed_none, signed_abs, signed_min
 use Rattle.pools.proofs.Weighing.{before_none, before_suc}
 
 -- ---- what falls to a running weight
+minus_divided : (n whole : ℕ) → int_div (neg_ℤ (pos n)) (pos whole) ≡ neg_ℤ (pos (n / whole))
+minus_divided zero whole = rw zero-div refl
+minus_divided (suc n) whole = refl
+
+-- to divide the signed product drops the remainder of either sign
+pub divided : (pool : ℤ) (running whole : ℕ) → int_div (pool *ℤ pos running) (pos whole) ≡ falls_to pool running whole
+divided (pos n) running whole = refl
+divided (negsuc n) running whole = minus_divided (suc n * running) whole
+
 pub quotient_within : (size running whole : ℕ) → running ≤ whole → size * running / whole ≤ size
 quotient_within size running whole h = div-le_of_le-mul whole (rw (mul_comm whole size) (mul-le size running size whole (omega arith) h))
 
@@ -104,13 +114,12 @@ zeros zero k = refl
 zeros (suc n) zero = refl
 zeros (suc n) (suc k) = zeros n k
 
-pub shared_none : (pool : ℤ) (weight : ℕ → ℕ) (owners whole : ℕ) → whole ≡ before weight owners → whole ≡ 0 → Shared pool weight owners (replicate 32 (pos 0)) pool
-shared_none pool weight owners whole is none =
-    let e : before weight owners ≡ 0 = omega arith in
+pub shared_none : (pool : ℤ) (weight : ℕ → ℕ) (owners : ℕ) → before weight owners ≡ 0 → Shared pool weight owners (replicate 32 (pos 0)) pool
+shared_none pool weight owners none =
     shared pool weight owners (replicate 32 (pos 0)) pool
-    (λ place h. zeros 32 place ∙ sym (ap (λ n. share_of pool weight n place) e ∙ share_of_none pool weight place))
+    (λ place h. zeros 32 place ∙ sym (ap (λ n. share_of pool weight n place) none ∙ share_of_none pool weight place))
     (λ place h. zeros 32 place)
-    (sym (ap (operator_part pool) e))
+    (sym (ap (operator_part pool) none))
 
 operator_none : (pool : ℤ) (whole : ℕ) → 0 < whole → operator_part pool whole ≡ pos 0
 operator_none pool zero h = absurd (omega arith)
@@ -124,21 +133,17 @@ pub record Upto (pool : ℤ) (weight : ℕ → ℕ) (whole : ℕ) (shares : List
 pub upto_none : (pool : ℤ) (weight : ℕ → ℕ) (whole : ℕ) → Upto pool weight whole (replicate 32 (pos 0)) 0
 upto_none pool weight whole = record { exact = λ place h. absurd (omega arith); others = λ place h. zeros 32 place }
 
-pub upto_more : (pool : ℤ) (weight : ℕ → ℕ) (whole place running next : ℕ) (reached reaches : ℤ) (shares : List ℤ)
-    → running ≡ before weight place → next ≡ running + weight place
-    → reached ≡ falls_to pool running whole → reaches ≡ falls_to pool next whole
-    → place < length shares → Upto pool weight whole shares place
-    → Upto pool weight whole (set shares place (reaches -ℤ reached)) (place + 1)
-upto_more pool weight whole place running next reached reaches shares e₁ e₂ e₃ e₄ room upto = record {
+pub upto_more : (pool : ℤ) (weight : ℕ → ℕ) (whole place : ℕ) (share : ℤ) (shares : List ℤ)
+    → share ≡ share_of pool weight whole place → place < length shares
+    → Upto pool weight whole shares place → Upto pool weight whole (set shares place share) (place + 1)
+upto_more pool weight whole place share shares is room upto = record {
   exact = below_more _ _
       (λ k h. let ne : k ≢ place = omega arith in rw get_or-set_other (upto.exact k h))
-      (rw get_or-set_same (rw (e₄, e₃, e₂, e₁, before_suc weight place)));
+      (rw get_or-set_same is);
   others = λ k h. let ne : k ≢ place = omega arith in rw get_or-set_other (upto.others k (omega arith));
 }
 
-pub shared_all : (pool : ℤ) (weight : ℕ → ℕ) (owners whole : ℕ) (shares : List ℤ) → whole ≡ before weight owners → 0 < whole → Upto pool weight whole shares owners → Shared pool weight owners shares (pos 0)
-shared_all pool weight owners whole shares is positive upto =
-    shared pool weight owners shares (pos 0)
-    (λ place h. upto.exact place h ∙ ap (λ n. share_of pool weight n place) is)
-    upto.others
-    (sym (operator_none pool (before weight owners) (omega arith)))
+pub shared_all : (pool : ℤ) (weight : ℕ → ℕ) (owners : ℕ) (shares : List ℤ) → 0 < before weight owners
+    → Upto pool weight (before weight owners) shares owners → Shared pool weight owners shares (pos 0)
+shared_all pool weight owners shares positive upto =
+    shared pool weight owners shares (pos 0) upto.exact upto.others (sym (operator_none pool (before weight owners) positive))

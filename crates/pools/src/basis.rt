@@ -1,6 +1,6 @@
 //! Bases: what each owner weighs when a pool is shared.
 
-ghost use Rattle.std.specs.Prelude.{◌≡◌, ℕ, ◌≤◌, min, false, slice_index_or};
+ghost use Rattle.std.specs.Prelude.{◌≡◌, ℕ, ◌≤◌};
 ghost use Rattle.pools.specs.Bases.{exempted, fixed, withdrawn as weight_withdrawn};
 ghost use Rattle.std.proofs.Common.{rules};
 
@@ -22,7 +22,7 @@ pub trait Basis {
 }
 
 /// An owner weighs what it withdrew.
-#[derive(Clone, Copy)]
+#[derive(Clone, Copy, Debug, PartialEq, Eq)]
 pub struct Withdrawn;
 
 impl Basis for Withdrawn {
@@ -36,7 +36,7 @@ impl Basis for Withdrawn {
 }
 
 /// An owner weighs the number at its place, at most 10,000.
-#[derive(Clone, Copy)]
+#[derive(Clone, Copy, Debug, PartialEq, Eq)]
 pub struct FixedShares {
     pub shares: [u32; 32],
 }
@@ -47,26 +47,17 @@ impl Basis for FixedShares {
     ghost bounded = { Prim.search rules };
 
     fn weight(&self, place: usize, _withdrawn: u32) -> u32 {
-        if place < 32 {
-            self.shares[place].min(MOST_FIXED)
-        } else {
-            0
-        }
+        self.shares
+            .get(place)
+            .map_or(0, |&share| share.min(MOST_FIXED))
     }
 }
 
 /// The owners whose place is marked weigh nothing; the others weigh what the basis below says.
-#[derive(Clone, Copy)]
+#[derive(Clone, Copy, Debug, PartialEq, Eq)]
 pub struct Exemption<B> {
     pub exempt: [bool; 32],
     pub below: B,
-}
-
-/// Whether a place is marked; places from 32 on are not.
-fn is_marked(marks: &[bool; 32], place: usize) -> bool
-    ensures { result ≡ slice_index_or marks.now place false }
-{
-    place < 32 && marks[place]
 }
 
 impl<B: Basis> Basis for Exemption<B> {
@@ -75,7 +66,7 @@ impl<B: Basis> Basis for Exemption<B> {
     ghost bounded = { Prim.search rules };
 
     fn weight(&self, place: usize, withdrawn: u32) -> u32 {
-        if is_marked(&self.exempt, place) {
+        if self.exempt.get(place).is_some_and(|&exempt| exempt) {
             0
         } else {
             self.below.weight(place, withdrawn)

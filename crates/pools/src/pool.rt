@@ -1,25 +1,37 @@
 //! Pools: money that is owed until it is shared out, and how it is shared among the owners, by any basis.
 
-ghost use Rattle.std.specs.Prelude.{◌≡◌, ◌+◌, ◌*◌, ◌<◌, ◌≤◌, ◌+ℤ◌, ◌-ℤ◌, MatchOption, unsigned_abs};
-ghost use Rattle.pools.specs.Sharing.{Shared, falls_to, signed_as, weights, before as weight_before};
+ghost use Rattle.std.specs.Prelude.{◌≡◌, ◌+◌, ◌≤◌, ℤ, ◌-ℤ◌, SomeIff, unsigned_abs};
+ghost use Rattle.std.specs.Int.NonZero.{non_zero_u32_get};
+ghost use Rattle.pools.specs.Sharing.{Shared, before, falls_to, weights};
 
 use crate::basis::Basis;
 use crate::withdrawals::Withdrawals;
+use std::marker::Model;
+use std::num::NonZeroU32;
 
 /// The most that a pool holds, either way.
 const MOST: u64 = 14_000_000_000;
 
 /// A struck pool, in cents. It is not `Drop` and only `share` takes it, so what is struck has to be shared.
+#[derive(Debug)]
 pub struct Pool {
     amount: i64,
-    ghost bounded: { unsigned_abs amount ≤ 14000000000 },
+}
+
+impl Model for Pool {
+    ghost Value = { ℤ };
+
+    ghost view = { λ pool. pool.amount };
+
+    ghost invariant = { λ pool. unsigned_abs pool.amount ≤ 14000000000 };
 }
 
 impl Pool {
     /// Strikes a pool of this amount; none if the amount is beyond 14,000,000,000 cents either way.
     pub fn strike(amount: i64) -> Option<Pool>
-        ensures { MatchOption result (14000000000 < unsigned_abs amount) (λ pool. pool.amount ≡ amount) }
+        ensures { SomeIff result (unsigned_abs amount ≤ 14000000000) amount }
     {
+        // Not `then_some`: it drops what it was given where the condition fails, and no pool can be dropped.
         if amount.unsigned_abs() <= MOST {
             Some(Pool { amount })
         } else {
@@ -29,92 +41,89 @@ impl Pool {
 }
 
 /// What came of a pool, in cents: the share of each owner, by place, and what the operator takes.
-#[derive(Clone, Copy)]
+///
+/// The shares stand in an array that the value owns, since no library allocates and callers keep what `share` returns.
+#[derive(Clone, Copy, Debug, PartialEq, Eq)]
 pub struct Shares {
     pub owners: [i64; 32],
     pub operator: i64,
 }
 
-/// The weight of one owner.
-fn weight_of<B: Basis>(basis: &B, withdrawn: &Withdrawals, place: usize) -> u64
-    requires { place < withdrawn.now.owners }
-    ensures exact { result ≡ weights B.weighs basis.now withdrawn.now.quantities place }
-    ensures bound { result ≤ 6400000 }
-{
-    u64::from(basis.weight(place, withdrawn.quantities[place]))
-}
-
 /// The weight of all owners.
-fn whole_weight<B: Basis>(basis: &B, withdrawn: &Withdrawals) -> u64
-    ensures exact { result ≡ weight_before (weights B.weighs basis.now withdrawn.now.quantities) withdrawn.now.owners }
-    ensures bound { result ≤ 6400000 * withdrawn.now.owners }
+fn whole_weight<B: Basis>(basis: &B, withdrawn: &Withdrawals) -> u32
+    ensures exact { result ≡ before (weights B.weighs basis.now withdrawn.now.quantities) withdrawn.now.owners }
+    ensures bound { result ≤ 204800000 }
 {
-    let mut whole: u64 = 0;
-    for place in 0..withdrawn.owners {
-        whole += weight_of(basis, withdrawn, place);
+    withdrawn
+        .by_owner()
+        .iter()
+        .enumerate()
+        .map(|(place, &quantity)| basis.weight(place, quantity))
+        .sum()
+}
+
+/// A pool on its way to owners who weigh something together: the running weight of those who have their share, and what fell to it.
+#[derive(Drop)]
+struct Division {
+    amount: i64,
+    whole: NonZeroU32,
+    running: u32,
+    reached: i64,
+    ghost sized: { unsigned_abs amount ≤ 14000000000 },
+    ghost bounded: { non_zero_u32_get whole ≤ 204800000 },
+    ghost within: { running ≤ non_zero_u32_get whole },
+    ghost fallen: { reached ≡ falls_to amount running (non_zero_u32_get whole) },
+}
+
+impl Division {
+    /// What of the amount falls to a running weight, the remainder dropped.
+    fn falls_to(&self, running: u32) -> i64
+        requires { running ≤ non_zero_u32_get self.now.whole }
+        ensures { result ≡ falls_to self.now.amount running (non_zero_u32_get self.now.whole) }
+    {
+        self.amount * i64::from(running) / i64::from(self.whole.get())
     }
-    whole
-}
 
-/// A size with the sign of an amount.
-fn signed_as(amount: i64, size: u64) -> i64
-    requires { size ≤ 14000000000 }
-    ensures { result ≡ signed_as amount size }
-{
-    if amount < 0 {
-        -(size as i64)
-    } else {
-        size as i64
+    /// The share of the next owner: what falls to the running weight up to it, less what fell to the weight before it.
+    fn next_share(&mut self, weight: u32) -> i64
+        requires { self.old.running + weight ≤ non_zero_u32_get self.old.whole }
+        ensures share { result ≡ falls_to self.old.amount (self.old.running + weight) (non_zero_u32_get self.old.whole) -ℤ self.old.reached }
+        ensures running { self.new.running ≡ self.old.running + weight }
+        ensures amount { self.new.amount ≡ self.old.amount }
+        ensures whole { self.new.whole ≡ self.old.whole }
+    {
+        let running = self.running + weight;
+        let reaches = self.falls_to(running);
+        let share = reaches - self.reached;
+        self.running = running;
+        self.reached = reaches;
+        share
     }
-}
-
-/// What of an amount falls to a running sum of the whole weight.
-fn falls_to(amount: i64, running: u64, whole: u64) -> i64
-    requires sized { unsigned_abs amount ≤ 14000000000 }
-    requires within { running ≤ whole }
-    requires bounded { whole ≤ 204800000 }
-    requires positive { 0 < whole }
-    ensures exact { result ≡ falls_to amount running whole }
-    ensures bound { unsigned_abs result ≤ 14000000000 }
-{
-    signed_as(amount, amount.unsigned_abs() * running / whole)
-}
-
-/// The share of an owner of some weight: what falls to the running weight up to it, less what was reached by the owners before it.
-fn owner_share(amount: i64, before: u64, weight: u64, whole: u64, reached: i64) -> i64
-    requires sized { unsigned_abs amount ≤ 14000000000 }
-    requires within { before + weight ≤ whole }
-    requires bounded { whole ≤ 204800000 }
-    requires positive { 0 < whole }
-    requires passed { unsigned_abs reached ≤ 14000000000 }
-    ensures exact { result ≡ falls_to amount (before + weight) whole -ℤ reached }
-    ensures bound { unsigned_abs (reached +ℤ result) ≤ 14000000000 }
-{
-    falls_to(amount, before + weight, whole) - reached
 }
 
 /// Shares a pool by the weights of a basis, which is asked for owners only. An owner gets what falls to the running weight up to it,
 /// less what fell to the weight before it. Where nothing weighs, the operator takes all.
 pub fn share<B: Basis>(pool: Pool, basis: &B, withdrawn: &Withdrawals) -> Shares
-    ensures { Shared pool.amount (weights B.weighs basis.now withdrawn.now.quantities) withdrawn.now.owners result.owners result.operator }
+    ensures bounded { unsigned_abs pool ≤ 14000000000 }
+    ensures shared { Shared pool (weights B.weighs basis.now withdrawn.now.quantities) withdrawn.now.owners result.owners result.operator }
 {
     let Pool { amount } = pool;
-    let whole = whole_weight(basis, withdrawn);
-    let mut owners = [0i64; 32];
-    if whole == 0 {
+    let mut owners = [0; 32];
+    let Some(whole) = NonZeroU32::new(whole_weight(basis, withdrawn)) else {
         return Shares {
             owners,
             operator: amount,
         };
-    }
-    let mut before: u64 = 0;
-    let mut reached: i64 = 0;
-    for place in 0..withdrawn.owners {
-        let weight = weight_of(basis, withdrawn, place);
-        let share = owner_share(amount, before, weight, whole, reached);
-        owners[place] = share;
-        before += weight;
-        reached += share;
+    };
+    let mut division = Division {
+        amount,
+        whole,
+        running: 0,
+        reached: 0,
+    };
+    // Written by place: of what is written through a `zip` with `iter_mut`, nothing is known after the loop.
+    for (place, &quantity) in withdrawn.by_owner().iter().enumerate() {
+        owners[place] = division.next_share(basis.weight(place, quantity));
     }
     Shares {
         owners,

@@ -10,7 +10,7 @@ use pools::pool::{Pool, Shares, share};
 use pools::withdrawals::Withdrawals;
 
 /// Owners weigh by the band that their withdrawn quantity lies in.
-#[derive(Clone, Copy)]
+#[derive(Clone, Copy, Debug, PartialEq, Eq)]
 pub struct Bands;
 
 impl Basis for Bands {
@@ -31,7 +31,7 @@ impl Basis for Bands {
 
 /// Shares a pool by bands: the promise of sharing, at a basis that the library does not know.
 pub fn share_by_bands(pool: Pool, withdrawn: &Withdrawals) -> Shares
-    ensures { Shared pool.amount (λ place. banded (slice_index withdrawn.now.quantities place)) withdrawn.now.owners result.owners result.operator }
+    ensures { Shared pool (λ place. banded (slice_index withdrawn.now.quantities place)) withdrawn.now.owners result.owners result.operator }
 {
     share(pool, &Bands, withdrawn)
 }

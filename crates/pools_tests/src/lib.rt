@@ -6,4 +6,6 @@ pub mod bands;
 #[cfg(test)]
 mod basis_tests;
 #[cfg(test)]
+mod places;
+#[cfg(test)]
 mod sharing_tests;
