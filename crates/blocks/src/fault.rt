@@ -62,12 +62,11 @@ impl From<BlockFault> for FileFault {
     }
 }
 
-impl Rule {
-    /// What is wrong where the rule is broken.
-    fn meaning(self) -> &'static str
-        ensures { result.now ≡ meaning self }
-    {
-        match self {
+impl fmt::Display for Rule {
+    ghost output = { λ rule. Some (meaning rule) };
+
+    fn fmt<W: fmt::Write>(&self, f: &mut fmt::Formatter<W>) -> fmt::Result {
+        f.write_str(match self {
             Rule::Check => "the check is wrong",
             Rule::Kind => "byte 0 or 1 is not allowed here",
             Rule::Hour => "the hour is wrong",
@@ -77,15 +76,7 @@ impl Rule {
             Rule::Rows => "a row count or a row is wrong",
             Rule::Schedule => "a schedule passes the last end of its ladder",
             Rule::Unused => "an unused word is not 0",
-        }
-    }
-}
-
-impl fmt::Display for Rule {
-    ghost output = { λ rule. Some (meaning rule) };
-
-    fn fmt<W: fmt::Write>(&self, f: &mut fmt::Formatter<W>) -> fmt::Result {
-        f.write_str(self.meaning())
+        })
     }
 }
 
