@@ -1,6 +1,7 @@
 pub mod Faults
 pub mod Firsts
 pub mod Kinds
+pub mod Ladders
 pub mod Lone
 pub mod Meanings
 pub mod Records
