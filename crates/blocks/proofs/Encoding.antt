@@ -1,7 +1,8 @@
 -- Words written as bytes, and read back.
-use Rattle.std.proofs.Common.{◌≡◌, ℕ, zero, suc, ◌+◌, ◌*◌, ◌/◌, ◌%◌, ◌^◌, ◌<◌, ◌≤◌, List, [], ◌∷◌, ◌++◌, length, get_or, take, drop, ℤ, sym, refl, ap, ◌∙◌, add-one, arith, w32, SFits, to_z, of_z}
-use Rattle.std.specs.List.{AllByRecursion as All}
+use Rattle.std.proofs.Common.{◌≡◌, ℕ, zero, suc, ◌+◌, ◌*◌, ◌/◌, ◌%◌, ◌^◌, ◌<◌, ◌≤◌, List, [], ◌∷◌, ◌++◌, length, map, get_or, take, drop, ℤ, sym, refl, ap, ◌∙◌, add-one, arith, w32, SFits, to_z, of_z}
+use Rattle.std.specs.List.{AllByRecursion as All, range_with_len}
 use Rattle.std.proofs.lemmas.List.{get_or-drop}
+use Rattle.std.proofs.lemmas.List.FromFn.{map-range_with_len_more}
 use Rattle.std.proofs.lemmas.Int.{ints, to_z-of_z, of_z-to_z}
 use Rattle.std.proofs.lemmas.Nat.{shr-shr, div-add-mod'}
 use Rattle.blocks.specs.Words.{word_at, word_bytes}
@@ -31,6 +32,17 @@ words_of_more (suc n) bytes =
     let more = words_of_more n (drop 4 bytes) in
     let last : word_at (drop 4 bytes) n ≡ word_at bytes (suc n) = word_at-drop bytes n ∙ ap (word_at bytes) (add-one n) in
     rw add-one (ap (λ ws. word_at bytes 0 ∷ ws) (ap (λ k. words_of k (drop 4 bytes)) (sym (add-one n)) ∙ more ∙ ap (λ w. words_of n (drop 4 bytes) ++ w ∷ []) last))
+
+-- words 1 to n of a block
+pub words_of_from_fn : (n : ℕ) (bytes : List ℕ) → map (λ i. word_at bytes (i + 1)) (range_with_len 0 n) ≡ words_of n (drop 4 bytes)
+unfolding words_of
+words_of_from_fn zero bytes = refl
+words_of_from_fn (suc n) bytes =
+    let next : n + 1 ≡ suc n = omega arith in
+    let before = words_of_from_fn n bytes in
+    let more = map-range_with_len_more (λ i. word_at bytes (i + 1)) 0 n n (omega arith) in
+    let last = word_at-drop bytes n in
+    sym (ap (λ k. map (λ i. word_at bytes (i + 1)) (range_with_len 0 k)) next) ∙ more ∙ (λ k. before k ++ sym last k ∷ []) ∙ sym (words_of_more n (drop 4 bytes)) ∙ ap (λ k. words_of k (drop 4 bytes)) next
 
 -- three digits of base 256 and what is above them
 by_steps : (n q₁ q₂ q₃ r₀ r₁ r₂ : ℕ) → q₁ * 256 + r₀ ≡ n → q₂ * 256 + r₁ ≡ q₁ → q₃ * 256 + r₂ ≡ q₂ → r₀ + r₁ * 256 + r₂ * 65536 + q₃ * 16777216 ≡ n

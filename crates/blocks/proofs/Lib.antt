@@ -1,5 +1,8 @@
+pub mod Choosing
+pub mod Chunks
 pub mod Deciding
 pub mod Encoding
+pub mod Filling
 pub mod Finding
 pub mod Ordering
 pub mod Passing

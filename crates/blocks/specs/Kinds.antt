@@ -2,10 +2,12 @@
 use Rattle.std.specs.Prelude.{ℕ, ◌+◌, ◌-◌, ◌*◌, ◌%◌, Bool, cond, ◌&&◌, ◌||◌, Some, None, Option, ◌==◌, nat_le, nat_lt}
 use Rattle.market.specs.declared.range.Figure.{Figure}
 use Rattle.market.specs.declared.range.Figure.TheVariants.{Price, ReservePrice, Quantity, Reading}
+use Rattle.blocks.specs.declared.kind.Content.{Content}
+use Rattle.blocks.specs.declared.kind.Content.TheVariants as contents
 use Rattle.blocks.specs.declared.kind.Kind.{Kind}
 use Rattle.blocks.specs.declared.kind.Kind.TheVariants.{Header, Resource, Virtual}
-use Rattle.blocks.specs.declared.kind.Schedule.{Schedule}
-use Rattle.blocks.specs.declared.kind.Schedule.TheVariants.{Energy, Reserve}
+use Rattle.blocks.specs.declared.kind.Ladder.{Ladder}
+use Rattle.blocks.specs.declared.kind.Ladder.TheVariants.{Energy, Reserve}
 
 -- The kind of a block by its first byte: H, R or V.
 abbrev pub kind_of : ℕ → Option Kind
@@ -17,11 +19,24 @@ side_fits Header side = side == 0
 side_fits Resource side = side == 71 || side == 76 || side == 78
 side_fits Virtual side = side == 71 || side == 76
 
+-- The figure that a word holds by its content, and the ladder that it may not pass, if it is a quantity.
+abbrev pub figure_of : Content → Figure
+figure_of contents.Price = Price
+figure_of contents.ReservePrice = ReservePrice
+figure_of contents.Reading = Reading
+figure_of (contents.Quantity ladder) = Quantity
+
+abbrev pub ladder_of : Content → Option Ladder
+ladder_of contents.Price = None
+ladder_of contents.ReservePrice = None
+ladder_of contents.Reading = None
+ladder_of (contents.Quantity ladder) = Some ladder
+
 -- An interval has five words: price, schedule, reading, reserve price, reserve schedule.
 abbrev pub interval_figure : ℕ → Figure
 interval_figure n = cond (n == 0) Price (cond (n == 2) Reading (cond (n == 3) ReservePrice Quantity))
 
-abbrev pub interval_schedule : ℕ → Option Schedule
+abbrev pub interval_schedule : ℕ → Option Ladder
 interval_schedule n = cond (n == 1) (Some Energy) (cond (n == 4) (Some Reserve) None)
 
 -- The words of the intervals: 8 to 67, the nth of five.
@@ -47,7 +62,7 @@ figure_at Resource word = resource_figure word
 figure_at Virtual word = cond (word == 2) (Some Quantity) None
 
 -- The words of a resource that no ladder may end below: the day-ahead quantities and the schedules of the intervals.
-abbrev pub schedule_at : ℕ → Option Schedule
+abbrev pub schedule_at : ℕ → Option Ladder
 schedule_at word =
     cond (word == 3) (Some Energy)
     (cond (word == 5) (Some Reserve)

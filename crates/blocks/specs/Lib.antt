@@ -1,7 +1,9 @@
 pub mod Faults
 pub mod Firsts
 pub mod Kinds
+pub mod Ladders
 pub mod Lone
+pub mod Meanings
 pub mod Records
 pub mod Rules
 pub mod Settings

@@ -7,6 +7,7 @@ use Rattle.blocks.specs.declared.kind.Kind.{Kind}
 use Rattle.blocks.specs.declared.kind.Kind.TheVariants as kinds
 use Rattle.blocks.specs.declared.record.Record.{Record}
 use Rattle.blocks.specs.declared.record.Record.TheVariants.{Header, Resource, Virtual}
+use Rattle.blocks.specs.declared.whole.Body.{Body}
 use Rattle.blocks.specs.Kinds.{kind_of}
 use Rattle.blocks.specs.Words.{byte_at, word_at}
 
@@ -20,9 +21,9 @@ opened (Header part block) = record { kind = kinds.Header; part = part.now; bloc
 opened (Resource part block) = record { kind = kinds.Resource; part = part.now; block = block }
 opened (Virtual part block) = record { kind = kinds.Virtual; part = part.now; block = block }
 
-abbrev pub opened_in : Result Record BlockFault → Result Opened BlockFault
-opened_in (Ok rec) = Ok (opened rec)
-opened_in (Err fault) = Err fault
+-- The same of the body of a whole block.
+abbrev pub body_opened : Body → Opened
+body_opened body = record { kind = body.kind; part = body.block.part.now; block = body.block.number }
 
 abbrev pub fault_at : Rule → ℕ → ℕ → BlockFault
 fault_at rule block word = record { rule = rule; block = block; word = word }

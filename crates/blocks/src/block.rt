@@ -1,65 +1,66 @@
 //! A lone block: a record is written as a block, and a block is read as a record.
 
-ghost use Rattle.std.specs.Prelude.{◌≡◌, ◌≤◌, true, ◌++◌, length, take, drop, pos, is_ok, IfOk, Ok, FitsSigned};
+ghost use Rattle.std.specs.Prelude.{◌≡◌, true, ◌++◌, take, drop, pos, is_ok, IfOk, Ok, FitsSigned};
 ghost use Rattle.blocks.specs.Words.{check_of, word_at};
 ghost use Rattle.std.specs.List.{AllByRecursion};
 ghost use Rattle.std.specs.Int.{w32};
 ghost use Rattle.blocks.specs.Firsts.{FindsFirst};
-ghost use Rattle.blocks.specs.Lone.{LowestOf, bytes_of, decoded, encoded, part_verdict, read_of, verdict_in, words_of, write_of, written};
+ghost use Rattle.blocks.specs.Lone.{LowestOf, bytes_of, decoded, encoded, part_verdict, read_of, verdict_in, write_of, written};
 ghost use Rattle.blocks.specs.Records.{opened, record_of};
 
 use crate::check::check_sum;
 use crate::fault::FileFault;
 use crate::limits::Limits;
-use crate::record::{BLOCK, Record, open_record};
-use crate::verdict::{check_block, check_body};
+use crate::record::{BLOCK, Record};
+use crate::whole::Block;
 use crate::word::{put_word, word};
+use std::array;
 
 /// The words of a record: words 1 to 126 of its block.
 pub const RECORD_WORDS: usize = 126;
 
 /// A record out of any file: bytes 0 to 3 and words 1 to 126 of its block.
-#[derive(Clone, Copy)]
+#[derive(Clone, Copy, Debug, PartialEq, Eq)]
 pub struct BlockRecord {
     pub head: [u8; 4],
     pub words: [i32; 126],
 }
 
-/// Words 1 to 126 of a block.
-fn record_words(part: &[u8]) -> [i32; 126]
-    requires { length part.now ≡ 512 }
-    ensures { result ≡ words_of 126 (drop 4 part.now) }
-{
-    let mut words = [0; 126];
-    for i in 0..RECORD_WORDS {
-        words[i] = word(part, i + 1);
-    }
-    words
-}
-
 /// Writes words 1 to 126.
-fn put_words(part: &mut [u8], words: &[i32; 126])
-    requires { 512 ≤ length part.old }
+fn put_words(part: &mut [u8; BLOCK], words: &[i32; RECORD_WORDS])
     ensures bytes { part.new ≡ (take 4 part.old ++ bytes_of words.now) ++ drop 508 part.old }
     ensures fit { AllByRecursion (FitsSigned w32) words.now }
 {
-    for i in 0..RECORD_WORDS {
-        put_word(part, i + 1, words[i]);
+    for (i, word) in words.iter().enumerate() {
+        put_word(part, i + 1, *word);
+    }
+}
+
+impl From<Block<'_>> for BlockRecord {
+    ghost from_gives = { λ block rec. rec ≡ decoded block.part.now };
+
+    fn from(block: Block<'_>) -> BlockRecord {
+        let part = block.part;
+        BlockRecord {
+            head: [part[0], part[1], part[2], part[3]],
+            words: array::from_fn(|i| word(part, i + 1)),
+        }
     }
 }
 
 impl BlockRecord {
-    /// Writes the record over a block, with its check.
-    fn encode(&self, part: &mut [u8])
-        requires { length part.old ≡ 512 }
-        ensures bytes { part.new ≡ encoded self.now }
+    /// The record as a block, with its check.
+    fn encode(&self) -> [u8; BLOCK]
+        ensures bytes { result ≡ encoded self.now }
         ensures right { word_at (encoded self.now) 127 ≡ pos (check_of (encoded self.now)) }
         ensures back { decoded (encoded self.now) ≡ self.now }
     {
+        let mut part = [0; BLOCK];
         part[0..4].copy_from_slice(&self.head);
-        put_words(part, &self.words);
-        let check = check_sum(part) as i32;
-        put_word(part, 127, check);
+        put_words(&mut part, &self.words);
+        let check = check_sum(&part) as i32;
+        put_word(&mut part, 127, check);
+        part
     }
 
     /// Writes the record as a block into a buffer of 512 bytes, with its check, and answers 512. A buffer of another length, or a record
@@ -72,10 +73,13 @@ impl BlockRecord {
         if buffer.len() != BLOCK {
             return Err(FileFault::Length);
         }
-        let mut block = empty_block();
-        self.encode(&mut block);
-        check_body(&block, 0, &Limits::alone())?;
-        buffer.copy_from_slice(&block);
+        let part = self.encode();
+        let block = Block {
+            part: &part,
+            number: 0,
+        };
+        block.checked_body(&Limits::alone())?;
+        buffer.copy_from_slice(&part);
         Ok(BLOCK)
     }
 
@@ -84,23 +88,10 @@ impl BlockRecord {
         ensures answer { result ≡ read_of part.now }
         ensures writes_back { IfOk result (λ rec. encoded rec ≡ part.now) }
     {
-        if part.len() != BLOCK {
-            return Err(FileFault::Length);
-        }
-        check_block(part, 0, &Limits::alone())?;
-        let words = record_words(part);
-        Ok(BlockRecord {
-            head: [part[0], part[1], part[2], part[3]],
-            words,
-        })
+        let block = Block::new(part, 0).ok_or(FileFault::Length)?;
+        block.checked(&Limits::alone())?;
+        Ok(BlockRecord::from(block))
     }
-}
-
-/// A block of zeros.
-fn empty_block() -> [u8; 512]
-    ensures { length result ≡ 512 }
-{
-    [0; 512]
 }
 
 /// Opens a block of a file: its record, or its first fault by the limits of where it stands. The fault is that of the lowest-numbered
@@ -111,9 +102,6 @@ pub fn open<'a>(part: &'a [u8], block: usize, limits: &Limits) -> Result<Record<
     ensures words { FindsFirst }
     ensures opens { IfOk result (λ rec. record_of part.now block ≡ Ok (opened rec)) }
 {
-    if part.len() != BLOCK {
-        return Err(FileFault::Length);
-    }
-    check_block(part, block, limits)?;
-    Ok(open_record(part, block)?)
+    let block = Block::new(part, block).ok_or(FileFault::Length)?;
+    Ok(Record::from(block.checked(limits)?))
 }

@@ -9,5 +9,6 @@ pub mod kind;
 pub mod limits;
 pub mod record;
 mod rules;
-pub mod verdict;
+mod verdict;
+mod whole;
 mod word;

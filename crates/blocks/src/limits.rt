@@ -1,11 +1,14 @@
 //! What a block may say where it stands: alone, or in a file.
 
 ghost use Rattle.blocks.specs.Settings.{alone, first, later};
+ghost use Rattle.blocks.specs.Verdicts.{may_stand, number_fits, place_fits};
 ghost use Rattle.std.specs.Prelude.{◌≡◌};
+
+use crate::kind::Kind;
 
 /// The limits of a block: which kinds may stand here, the hours, the number of owners and of following blocks that a header may tell,
 /// and the places (below a number) and position numbers (up to 65,535) that other blocks may have.
-#[derive(Clone, Copy)]
+#[derive(Clone, Copy, Debug, PartialEq, Eq)]
 pub struct Limits {
     pub headers: bool,
     pub positions: bool,
@@ -72,5 +75,35 @@ impl Limits {
             count_to: 0,
             number_from,
         }
+    }
+    /// Whether a block of this kind may stand here.
+    pub(crate) fn may_stand(&self, kind: Kind) -> bool
+        ensures { result ≡ may_stand self.now kind }
+    {
+        match kind {
+            Kind::Header => self.headers,
+            Kind::Resource | Kind::Virtual => self.positions,
+        }
+    }
+
+    /// Whether a header may tell this number of owners, or another block have this place.
+    pub(crate) fn place_fits(&self, kind: Kind, place: u32) -> bool
+        ensures { result ≡ place_fits self.now kind place }
+    {
+        match kind {
+            Kind::Header => (self.owners_from..=self.owners_to).contains(&place),
+            Kind::Resource | Kind::Virtual => place < self.places,
+        }
+    }
+
+    /// Whether a header may tell this number of following blocks, or another block have this position number.
+    pub(crate) fn number_fits(&self, kind: Kind, number: i32) -> bool
+        ensures { result ≡ number_fits self.now kind number }
+    {
+        let (from, to) = match kind {
+            Kind::Header => (self.count_from, self.count_to),
+            Kind::Resource | Kind::Virtual => (self.number_from, 65_535),
+        };
+        u32::try_from(number).is_ok_and(|number| (from..=to).contains(&number))
     }
 }

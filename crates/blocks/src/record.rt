@@ -1,10 +1,10 @@
 //! Opened records: each is a part of the file with its block number.
 
-ghost use Rattle.blocks.specs.Records.{opened, opened_in, record_of, word_of};
-ghost use Rattle.std.specs.Prelude.{◌≡◌, length, IfOk};
+ghost use Rattle.blocks.specs.Records.{body_opened, opened, word_of};
+ghost use Rattle.std.specs.Prelude.{◌≡◌};
 
-use crate::fault::{BlockFault, Rule};
 use crate::kind::Kind;
+use crate::whole::{Block, Body};
 use crate::word::word;
 
 /// The bytes of a block.
@@ -14,28 +14,23 @@ pub const BLOCK: usize = 512;
 pub const WORDS: usize = 128;
 
 /// A record, by the kind that its first byte names: its 512-byte part of the file, and the number of its block.
-#[derive(Clone, Copy)]
+#[derive(Clone, Copy, Debug, PartialEq, Eq)]
 pub enum Record<'a> {
     Header { part: &'a [u8], block: usize },
     Resource { part: &'a [u8], block: usize },
     Virtual { part: &'a [u8], block: usize },
 }
 
-/// Opens a block by its first byte.
-pub(crate) fn open_record(part: &[u8], block: usize) -> Result<Record<'_>, BlockFault>
-    requires { length part.now ≡ 512 }
-    ensures value { opened_in result ≡ record_of part.now block }
-    ensures whole { IfOk result (λ rec. length (opened rec).part ≡ 512) }
-{
-    match char::from(part[0]) {
-        'H' => Ok(Record::Header { part, block }),
-        'R' => Ok(Record::Resource { part, block }),
-        'V' => Ok(Record::Virtual { part, block }),
-        _ => Err(BlockFault {
-            rule: Rule::Kind,
-            block,
-            word: 0,
-        }),
+impl<'a> From<Body<'a>> for Record<'a> {
+    ghost from_gives = { λ body rec. opened rec ≡ body_opened body };
+
+    fn from(body: Body<'a>) -> Record<'a> {
+        let Block { part, number: block } = body.block;
+        match body.kind {
+            Kind::Header => Record::Header { part, block },
+            Kind::Resource => Record::Resource { part, block },
+            Kind::Virtual => Record::Virtual { part, block },
+        }
     }
 }
 
@@ -74,11 +69,7 @@ impl<'a> Record<'a> {
     pub fn word(&self, i: usize) -> Option<i32>
         ensures { result ≡ word_of (opened self.now) i }
     {
-        let part = self.part();
-        if i < WORDS && part.len() == BLOCK {
-            Some(word(part, i))
-        } else {
-            None
-        }
+        let block = Block::new(self.part(), self.block())?;
+        (i < WORDS).then_some(word(block.part, i))
     }
 }

@@ -1,98 +1,110 @@
-//! The lowest word of a block that breaks a rule.
+//! The rules of words: each looks for the lowest word of a block that breaks it.
 
-ghost use Rattle.std.specs.Prelude.{◌≡◌, ℕ, Bool, ◌&&◌, length, ℤ};
-ghost use Rattle.blocks.specs.Kinds.{figure_at, is_unused, schedule_at};
-ghost use Rattle.blocks.specs.Rules.{past};
-ghost use Rattle.blocks.specs.Verdicts.{first_word, not_zero, out_of_range};
-ghost use Rattle.blocks.specs.Words.{word_at};
+ghost use Rattle.std.specs.Prelude.{◌≡◌};
+ghost use Rattle.blocks.specs.Kinds.{is_unused};
+ghost use Rattle.blocks.specs.Records.{body_opened};
+ghost use Rattle.blocks.specs.Rules.{BreaksFirst};
+ghost use Rattle.blocks.specs.Ladders.{end_in, row_in, rows_in};
+ghost use Rattle.blocks.specs.Verdicts.{range_verdict, schedule_verdict, unused_verdict};
 
-use crate::kind::{Kind, Schedule, scheduled};
+use crate::fault::{BlockFault, Rule};
+use crate::kind::{Kind, Ladder, scheduled};
+use crate::record::BLOCK;
+use crate::whole::{Block, Body};
 use crate::word::word;
+use ladders::rows::Row;
 
-/// A rule that a word keeps or breaks, by its number and its value.
-pub(crate) trait WordRule {
-    ghost broken: { Self → ℕ → ℤ → Bool };
-
-    fn breaks(&self, i: usize, value: i32) -> bool
-        ensures { result ≡ broken self.now i value };
-}
-
-/// The lowest of words 1 to 126 that breaks a rule.
-pub(crate) fn first_breach<R: WordRule>(rule: &R, part: &[u8]) -> Option<usize>
-    requires { length part.now ≡ 512 }
-    ensures { result ≡ first_word (λ i. R.broken rule.now i (word_at part.now i)) }
+/// Whether a word is not used in a block of this kind, with so many rows.
+fn is_unused(kind: Kind, energy_rows: u32, reserve_rows: u32, i: usize) -> bool
+    ensures { result ≡ is_unused kind energy_rows reserve_rows i }
 {
-    for i in 1..127 {
-        if rule.breaks(i, word(part, i)) {
-            return Some(i);
-        }
-    }
-    None
-}
-
-/// Each figure is in its range.
-#[derive(Clone, Copy)]
-pub(crate) struct InRange {
-    pub(crate) kind: Kind,
-}
-
-impl WordRule for InRange {
-    ghost broken = { λ rule i value. out_of_range (figure_at rule.kind i) value };
-
-    fn breaks(&self, i: usize, value: i32) -> bool {
-        match self.kind.figure(i) {
-            Some(figure) => value < figure.lowest() || figure.highest() < value,
-            None => false,
-        }
+    match kind {
+        Kind::Header => i >= 15,
+        Kind::Virtual => i >= 3,
+        Kind::Resource => (68 + 2 * energy_rows as usize..108).contains(&i)
+            || i >= 108 + 2 * reserve_rows as usize,
     }
 }
 
-/// No day-ahead quantity or schedule passes the last end of its ladder.
-#[derive(Clone, Copy)]
-pub(crate) struct WithinLadders {
-    pub(crate) energy_end: i32,
-    pub(crate) reserve_end: i32,
-}
-
-impl WordRule for WithinLadders {
-    ghost broken = { λ rule i value. past rule.energy_end rule.reserve_end (schedule_at i) value };
-
-    fn breaks(&self, i: usize, value: i32) -> bool {
-        match scheduled(i) {
-            Some(Schedule::Energy) => self.energy_end < value,
-            Some(Schedule::Reserve) => self.reserve_end < value,
-            None => false,
-        }
+/// A row of a ladder.
+pub(crate) fn row(part: &[u8; BLOCK], ladder: Ladder, k: u32) -> Row
+    ensures { result ≡ row_in ladder part.now k }
+{
+    let at = ladder.rows_start() + 2 * k as usize;
+    Row {
+        price: word(part, at),
+        end: word(part, at + 1),
     }
 }
 
-/// Each unused word is 0.
-#[derive(Clone, Copy)]
-pub(crate) struct UnusedIsZero {
-    pub(crate) kind: Kind,
-    pub(crate) energy_rows: u32,
-    pub(crate) reserve_rows: u32,
-}
-
-impl UnusedIsZero {
-    fn is_unused(&self, i: usize) -> bool
-        ensures { result ≡ is_unused self.now.kind self.now.energy_rows self.now.reserve_rows i }
+impl Block<'_> {
+    /// The lowest of words 1 to 126 that breaks a rule, which says so of a word by its number and its value.
+    fn first_breach<F: Fn(usize, i32) -> bool>(&self, breaks: F) -> Option<usize>
+        requires { F.IsAlwaysCallable breaks }
+        ensures { BreaksFirst (F.post breaks) self.now.part.now result }
     {
-        match self.kind {
-            Kind::Header => i >= 15,
-            Kind::Virtual => i >= 3,
-            Kind::Resource => {
-                (i >= 68 + 2 * self.energy_rows as usize && i < 108)
-                    || i >= 108 + 2 * self.reserve_rows as usize
-            }
+        let part = self.part;
+        (1..127).find(|&i| breaks(i, word(part, i)))
+    }
+
+    /// How many rows a ladder has by the word that counts them, whatever its sign.
+    pub(crate) fn row_count(&self, ladder: Ladder) -> u32
+        ensures { result ≡ rows_in ladder self.now.part.now }
+    {
+        word(self.part, ladder.count_word()).unsigned_abs()
+    }
+
+    /// The end of the last row of a ladder; 0 without rows.
+    fn last_end(&self, ladder: Ladder) -> i32
+        ensures { result ≡ end_in ladder self.now.part.now }
+    {
+        match self.row_count(ladder) {
+            0 => 0,
+            count => row(self.part, ladder, count - 1).end,
         }
     }
 }
 
-impl WordRule for UnusedIsZero {
-    ghost broken = { λ rule i value. is_unused rule.kind rule.energy_rows rule.reserve_rows i && not_zero value };
+impl Body<'_> {
+    /// Each figure is in its range.
+    pub(crate) fn check_ranges(&self) -> Result<(), BlockFault>
+        ensures { result ≡ range_verdict (body_opened self.now) }
+    {
+        let kind = self.kind;
+        let found = self.block.first_breach(|i, value| {
+            kind.figure(i)
+                .is_some_and(|figure| figure.check(value).is_err())
+        });
+        self.block.fault_if_found(found, Rule::Range)
+    }
 
-    fn breaks(&self, i: usize, value: i32) -> bool {
-        self.is_unused(i) && value != 0
+    /// No day-ahead quantity or schedule of a resource passes the last end of its ladder.
+    pub(crate) fn check_schedules(&self) -> Result<(), BlockFault>
+        ensures { result ≡ schedule_verdict (body_opened self.now) }
+    {
+        let Kind::Resource = self.kind else {
+            return Ok(());
+        };
+        let energy_end = self.block.last_end(Ladder::Energy);
+        let reserve_end = self.block.last_end(Ladder::Reserve);
+        let found = self.block.first_breach(|i, value| match scheduled(i) {
+            Some(Ladder::Energy) => energy_end < value,
+            Some(Ladder::Reserve) => reserve_end < value,
+            None => false,
+        });
+        self.block.fault_if_found(found, Rule::Schedule)
+    }
+
+    /// Each unused word is 0.
+    pub(crate) fn check_unused(&self) -> Result<(), BlockFault>
+        ensures { result ≡ unused_verdict (body_opened self.now) }
+    {
+        let energy_rows = self.block.row_count(Ladder::Energy);
+        let reserve_rows = self.block.row_count(Ladder::Reserve);
+        let kind = self.kind;
+        let found = self.block.first_breach(|i, value| {
+            value != 0 && is_unused(kind, energy_rows, reserve_rows, i)
+        });
+        self.block.fault_if_found(found, Rule::Unused)
     }
 }

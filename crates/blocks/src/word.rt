@@ -1,26 +1,20 @@
-//! Words: four bytes, least first, signed.
+//! Words of a whole block: four bytes, least first, signed.
 
-ghost use Rattle.std.specs.Prelude.{◌≡◌, ◌+◌, ◌*◌, ◌≤◌, length};
+ghost use Rattle.std.specs.Prelude.{◌≡◌, ◌<◌};
 ghost use Rattle.blocks.specs.Words.{with_word, word_at};
 
-pub(crate) fn word(part: &[u8], i: usize) -> i32
-    requires { 4 * i + 4 ≤ length part.now }
+use crate::record::BLOCK;
+
+/// A word; 0 past the end of the block.
+pub(crate) fn word(part: &[u8; BLOCK], i: usize) -> i32
     ensures { result ≡ word_at part.now i }
 {
-    let at = 4 * i;
-    i32::from_le_bytes([part[at], part[at + 1], part[at + 2], part[at + 3]])
+    let (words, _) = part.as_chunks::<4>();
+    words.get(i).map_or(0, |bytes| i32::from_le_bytes(*bytes))
 }
 
-/// A word of a block; 0 past its end.
-pub(crate) fn word_or_0(part: &[u8], i: usize) -> i32
-    requires { length part.now ≡ 512 }
-    ensures { result ≡ word_at part.now i }
-{
-    if i < 128 { word(part, i) } else { 0 }
-}
-
-pub(crate) fn put_word(part: &mut [u8], i: usize, value: i32)
-    requires { 4 * i + 4 ≤ length part.old }
+pub(crate) fn put_word(part: &mut [u8; BLOCK], i: usize, value: i32)
+    requires { i < 128 }
     ensures { part.new ≡ with_word part.old i value }
 {
     let at = 4 * i;

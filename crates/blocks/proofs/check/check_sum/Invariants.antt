@@ -4,4 +4,4 @@ use Rattle.blocks.proofs.check.check_sum.Given as goal
 
 -- each byte adds at most 508 * 255
 abbrev pub invariant-loop-j : goal.invariant-loop-j
-invariant-loop-j l = (l.sum ≡ weighted l.part l.j) × (l.sum ≤ 129540 * l.j)
+invariant-loop-j l = record { value : l.sum ≡ weighted l.part l.j; small : l.sum ≤ 129540 * l.j }
