@@ -49,7 +49,7 @@ pub struct Shares {
     pub operator: i64,
 }
 
-/// The weight of all owners.
+/// What all owners weigh together.
 fn whole_weight<B: Basis>(basis: &B, withdrawn: &Withdrawals) -> u32
     ensures exact { result ≡ before (weights B.weighs basis.now withdrawn.now.quantities) withdrawn.now.owners }
     ensures bound { result ≤ 204800000 }
