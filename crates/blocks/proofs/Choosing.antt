@@ -1,5 +1,5 @@
 -- What a value by its cases comes to.
-use Rattle.std.proofs.Common.{◌≡◌, ℕ, zero, suc, ◌-◌, ◌≤◌, MatchOption, Some, None, Ok, Err, Option, List, ℤ, pos, refl, ap, ◌∙◌, arith}
+use Rattle.std.proofs.Common.{◌≡◌, ℕ, zero, suc, ◌-◌, ◌≤◌, MatchOption, Some, None, Ok, Err, Option, List, ℤ, pos, ap, ◌∙◌, arith}
 use Rattle.std.specs.Option.{SomeIff}
 use Rattle.blocks.specs.Firsts.{Verdict, if_found}
 use Rattle.blocks.specs.Verdicts.{last_end, row_of}

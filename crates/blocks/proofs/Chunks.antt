@@ -1,5 +1,5 @@
 -- A block as words of four bytes.
-use Rattle.std.proofs.Common.{◌≡◌, ℕ, zero, suc, ◌+◌, ◌*◌, ◌<◌, ◌≤◌, MatchOption, Some, None, Option, List, [], length, get_or, take, drop, ℤ, pos, Bor, refl, sym, ap, ◌∙◌, arith}
+use Rattle.std.proofs.Common.{◌≡◌, ℕ, zero, suc, ◌+◌, ◌*◌, ◌<◌, ◌≤◌, MatchOption, Some, None, Option, List, length, get_or, take, drop, ℤ, pos, Bor, refl, ap, ◌∙◌, arith}
 use Rattle.std.proofs.lemmas.List.{drop-drop, get_or-drop, get_or-take, get_or_past}
 use Rattle.std.specs.Simd.{first_chunks}
 use Rattle.std.specs.Int.{cast_signed, w32}

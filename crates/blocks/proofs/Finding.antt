@@ -1,7 +1,7 @@
 -- The first number that a test picks, and the first word that breaks a rule.
-use Rattle.std.proofs.Common.{◌≡◌, ℕ, zero, suc, ◌<◌, ◌≤◌, Bool, true, false, cond, ◌&&◌, leb, Some, None, Option, List, ℤ, sym, refl, ⊎_elim, arith}
+use Rattle.std.proofs.Common.{◌≡◌, ℕ, zero, suc, ◌<◌, ◌≤◌, Bool, true, false, cond, ◌&&◌, leb, Some, None, Option, List, ℤ, sym, refl, ap, ⊎_elim, arith}
 use Rattle.std.proofs.lemmas.Bool.{cases_lt, lt-leb, le-leb, leb-false, leb-true, and_right, and_parts, and_cases}
-use Rattle.blocks.specs.Firsts.{first_in, or_else, FoundFirst}
+use Rattle.blocks.specs.Firsts.{first_in, if_found, or_else, FoundFirst}
 use Rattle.blocks.specs.Rules.{BreaksFirst}
 use Rattle.blocks.specs.Verdicts.{first_word}
 use Rattle.blocks.specs.Words.{word_at}
@@ -14,10 +14,10 @@ module _ (p : ℕ → Bool) (a : ℕ) where
   first_in_nowhere (suc n) none =
       let before : first_in p a n ≡ None = first_in_nowhere n (λ k low high. none k low (omega arith)) in
       let here : (leb a n && p n) ≡ false =
-          ⊎_elim
-          (λ under. let low : leb a n ≡ false = lt-leb a n under in rw low)
-          (λ over. and_right (leb a n) (p n) (none n over (omega arith)))
-          (cases_lt n a) in
+      ⊎_elim
+      (λ under. let low : leb a n ≡ false = lt-leb a n under in rw low)
+      (λ over. and_right (leb a n) (p n) (none n over (omega arith)))
+      (cases_lt n a) in
       rw (before, here)
 
   first_in_suc : (n : ℕ) → first_in p a n ≡ None → a ≤ n → p n ≡ true → first_in p a (suc n) ≡ Some n
@@ -62,5 +62,5 @@ module _ {says : ℕ → ℤ → Bool → Type 0} {part : List ℕ} (picks : ℕ
   picked_first None breaks tells = λ k low high. sym (tells k false (breaks.lowest k low high))
   picked_first (Some i) breaks tells = let b = breaks.lowest in (b.0, b.1, sym (tells i true b.2), λ k low high. sym (tells k false (b.3 k low high)))
 
-  pub first_word_is : {found : Option ℕ} → BreaksFirst says part found → ((k : ℕ) (b : Bool) → says k (word_at part k) b → b ≡ picks k) → found ≡ first_word picks
-  first_word_is {found} breaks tells = first_in_is picks 1 127 found (picked_first found breaks tells)
+  pub if_found-first_word : {E : Type 0} (fault : ℕ → E) {found : Option ℕ} → BreaksFirst says part found → ((k : ℕ) (b : Bool) → says k (word_at part k) b → b ≡ picks k) → if_found found fault ≡ if_found (first_word picks) fault
+  if_found-first_word fault {found} breaks tells = ap (λ o. if_found o fault) (first_in_is picks 1 127 found (picked_first found breaks tells))

@@ -8,6 +8,7 @@ pub mod fault;
 pub mod kind;
 pub mod limits;
 pub mod record;
+mod rows;
 mod rules;
 mod verdict;
 mod whole;

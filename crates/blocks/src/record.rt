@@ -25,7 +25,10 @@ impl<'a> From<Body<'a>> for Record<'a> {
     ghost from_gives = { λ body rec. opened rec ≡ body_opened body };
 
     fn from(body: Body<'a>) -> Record<'a> {
-        let Block { part, number: block } = body.block;
+        let Block {
+            part,
+            number: block,
+        } = body.block;
         match body.kind {
             Kind::Header => Record::Header { part, block },
             Kind::Resource => Record::Resource { part, block },

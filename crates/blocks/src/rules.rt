@@ -1,18 +1,15 @@
 //! The rules of words: each looks for the lowest word of a block that breaks it.
 
-ghost use Rattle.std.specs.Prelude.{◌≡◌};
 ghost use Rattle.blocks.specs.Kinds.{is_unused};
 ghost use Rattle.blocks.specs.Records.{body_opened};
 ghost use Rattle.blocks.specs.Rules.{BreaksFirst};
-ghost use Rattle.blocks.specs.Ladders.{end_in, row_in, rows_in};
 ghost use Rattle.blocks.specs.Verdicts.{range_verdict, schedule_verdict, unused_verdict};
+ghost use Rattle.std.specs.Prelude.{◌≡◌};
 
 use crate::fault::{BlockFault, Rule};
 use crate::kind::{Kind, Ladder, scheduled};
-use crate::record::BLOCK;
 use crate::whole::{Block, Body};
 use crate::word::word;
-use ladders::rows::Row;
 
 /// Whether a word is not used in a block of this kind, with so many rows.
 fn is_unused(kind: Kind, energy_rows: u32, reserve_rows: u32, i: usize) -> bool
@@ -26,17 +23,6 @@ fn is_unused(kind: Kind, energy_rows: u32, reserve_rows: u32, i: usize) -> bool
     }
 }
 
-/// A row of a ladder.
-pub(crate) fn row(part: &[u8; BLOCK], ladder: Ladder, k: u32) -> Row
-    ensures { result ≡ row_in ladder part.now k }
-{
-    let at = ladder.rows_start() + 2 * k as usize;
-    Row {
-        price: word(part, at),
-        end: word(part, at + 1),
-    }
-}
-
 impl Block<'_> {
     /// The lowest of words 1 to 126 that breaks a rule, which says so of a word by its number and its value.
     fn first_breach<F: Fn(usize, i32) -> bool>(&self, breaks: F) -> Option<usize>
@@ -45,23 +31,6 @@ impl Block<'_> {
     {
         let part = self.part;
         (1..127).find(|&i| breaks(i, word(part, i)))
-    }
-
-    /// How many rows a ladder has by the word that counts them, whatever its sign.
-    pub(crate) fn row_count(&self, ladder: Ladder) -> u32
-        ensures { result ≡ rows_in ladder self.now.part.now }
-    {
-        word(self.part, ladder.count_word()).unsigned_abs()
-    }
-
-    /// The end of the last row of a ladder; 0 without rows.
-    fn last_end(&self, ladder: Ladder) -> i32
-        ensures { result ≡ end_in ladder self.now.part.now }
-    {
-        match self.row_count(ladder) {
-            0 => 0,
-            count => row(self.part, ladder, count - 1).end,
-        }
     }
 }
 
@@ -99,9 +68,9 @@ impl Body<'_> {
     pub(crate) fn check_unused(&self) -> Result<(), BlockFault>
         ensures { result ≡ unused_verdict (body_opened self.now) }
     {
+        let kind = self.kind;
         let energy_rows = self.block.row_count(Ladder::Energy);
         let reserve_rows = self.block.row_count(Ladder::Reserve);
-        let kind = self.kind;
         let found = self.block.first_breach(|i, value| {
             value != 0 && is_unused(kind, energy_rows, reserve_rows, i)
         });

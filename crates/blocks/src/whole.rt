@@ -64,11 +64,11 @@ impl<'a> Block<'a> {
     }
 
     /// The body, where the first byte names a kind.
-    pub(crate) fn body(self) -> Result<Body<'a>, BlockFault>
-        ensures { result_map_both body_opened (λ fault. fault) result ≡ record_of self.entry.part.now self.entry.number }
+    pub(crate) fn body(&self) -> Result<Body<'a>, BlockFault>
+        ensures { result_map_both body_opened (λ fault. fault) result ≡ record_of self.now.part.now self.now.number }
     {
         let kind = Kind::named(char::from(self.part[0])).ok_or(self.fault(Rule::Kind, 0))?;
-        Ok(Body { kind, block: self })
+        Ok(Body { kind, block: *self })
     }
 }
 

@@ -1,5 +1,4 @@
-use Rattle.std.proofs.Common.{◌≡◌, rules}
-use Rattle.blocks.specs.Lone.{part_verdict, verdict_in}
+use Rattle.std.proofs.Common.{rules}
 use Rattle.blocks.proofs.Finding.{found_first}
 use Rattle.blocks.proofs.Ordering.{lowest_of}
 use Rattle.blocks.proofs.block.open.Goals as goal

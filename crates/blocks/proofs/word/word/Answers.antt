@@ -1,4 +1,4 @@
-use Rattle.std.proofs.Common.{◌≡◌, length, arith, rules, ◌∙◌, w32}
+use Rattle.std.proofs.Common.{◌≡◌, length, rules, ◌∙◌, w32}
 use Rattle.std.proofs.lemmas.Int.{to_z-of_z}
 use Rattle.blocks.proofs.Chunks.{word_read}
 use Rattle.blocks.proofs.word.word.Goals as goal

@@ -1,4 +1,4 @@
-use Rattle.std.proofs.Common.{◌≡◌, ◌++◌, length, drop, replicate, pos, ap, ◌∙◌, arith, w32, rules}
+use Rattle.std.proofs.Common.{◌≡◌, ℕ, List, ◌++◌, length, drop, replicate, pos, ap, ◌∙◌, arith, w32, rules}
 use Rattle.std.proofs.lemmas.List.{append-nil, drop_all}
 use Rattle.std.proofs.lemmas.Int.{to_z_pos}
 use Rattle.blocks.specs.Lone.{encoded}
@@ -8,7 +8,7 @@ use Rattle.blocks.proofs.block.BlockRecord.encode.Goals as goal
 pub returns : goal.returns
 returns c =
     let r = c.args.self.now in
-    let e = replicate 512 0 in
+    let e : List ℕ = replicate 512 0 in
     let four : length r.head ≡ 4 = search rules in
     let most : length r.words ≡ 126 = search rules in
     let first = ap (λ h. h ++ drop 4 e) c.copy_from_slice.ensures.after in
