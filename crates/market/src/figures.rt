@@ -17,8 +17,7 @@ pub trait FigureKind: Copy {
 }
 
 /// A number in the range of its kind of figure.
-#[derive(Debug, PartialEq, Eq)]
-#[derive_where(Copy)]
+#[derive_where(Copy, Debug, PartialEq, Eq)]
 pub struct Ranged<K: FigureKind> {
     pub value: i32,
     pub of: PhantomData<K>,

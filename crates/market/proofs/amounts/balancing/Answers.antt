@@ -11,7 +11,7 @@ pub sum-imbalances-requires-clause-fits : goal.sum-imbalances-requires-clause-fi
 sum-imbalances-requires-clause-fits c =
     let position = c.args.position.now in
     hour_fits interval_of (imbalance (size_of position.quantity)) 20160000000 20160000000 (λ x r q k. search rules)
-        position.intervals (YieldsList-from_slice position.intervals cc) c.map.ensures.closure (omega arith) (omega arith) (omega arith)
+    position.intervals (YieldsList-from_slice position.intervals cc) c.map.ensures.closure (omega arith) (omega arith) (omega arith)
 
 imbalances : (c : goal.After-from)
     → (c.sum-imbalances.result ≡ total (imbalance (size_of c.args.position.now.quantity)) (map interval_of c.args.position.now.intervals))
@@ -19,7 +19,7 @@ imbalances : (c : goal.After-from)
 imbalances c =
     let position = c.args.position.now in
     hour_sum interval_of (imbalance (size_of position.quantity)) 20160000000 20160000000 (λ x r q k. search rules)
-        position.intervals (YieldsList-from_slice position.intervals cc) c.map.ensures.closure (omega arith) c.sum-imbalances.result c.sum-imbalances.ensures.ran
+    position.intervals (YieldsList-from_slice position.intervals cc) c.map.ensures.closure (omega arith) c.sum-imbalances.result c.sum-imbalances.ensures.ran
 
 signed : (c : goal.After-from) → Multiplied w64 c.from.result c.sum-imbalances.result c.sign.result c.sum-imbalances.result 241920000000
 signed c = let between = (imbalances c).1 in multiplied w64 1 241920000000 _ _ _ _ (omega (arith, ints)) refl (omega (arith, ints)) (omega (arith, ints)) (omega arith)

@@ -12,7 +12,7 @@ pub sum-changes-requires-clause-fits : goal.sum-changes-requires-clause-fits
 sum-changes-requires-clause-fits c =
     let class = c.args.class.now in
     hour_fits reserve_interval_of (reserve_change (size_of class.quantity)) 20000000000 20000000000 (λ x r q k. search rules)
-        class.intervals (YieldsList-from_slice class.intervals cc) c.map.ensures.closure (omega arith) (omega arith) (omega arith)
+    class.intervals (YieldsList-from_slice class.intervals cc) c.map.ensures.closure (omega arith) (omega arith) (omega arith)
 
 day_ahead : (c : goal.After-from-2) → Multiplied w64 c.from.result c.from-2.result (pos 1200 *ℤ c.args.class.now.price.value) c.args.class.now.quantity.value 240000000000
 day_ahead c = multiplied w64 240000000 1000 _ _ _ _ (omega (arith, ints)) (omega (arith, ints)) (omega (arith, ints)) (omega (arith, ints)) (omega arith)
@@ -24,7 +24,7 @@ pub overflow_add-result : goal.overflow_add-result
 overflow_add-result c =
     let class = c.args.class.now in
     let sums = hour_sum reserve_interval_of (reserve_change (size_of class.quantity)) 20000000000 20000000000 (λ x r q k. search rules)
-        class.intervals (YieldsList-from_slice class.intervals cc) c.map.ensures.closure (omega arith) c.sum-changes.result c.sum-changes.ensures.ran in
+    class.intervals (YieldsList-from_slice class.intervals cc) c.map.ensures.closure (omega arith) c.sum-changes.result c.sum-changes.ensures.ran in
     let small = (day_ahead c).bound in
     rw (day_ahead c).value (omega (arith, ints))
 
@@ -32,7 +32,7 @@ pub returns : goal.returns
 returns c =
     let class = c.args.class.now in
     let sums = hour_sum reserve_interval_of (reserve_change (size_of class.quantity)) 20000000000 20000000000 (λ x r q k. search rules)
-        class.intervals (YieldsList-from_slice class.intervals cc) c.map.ensures.closure (omega arith) c.sum-changes.result c.sum-changes.ensures.ran in
+    class.intervals (YieldsList-from_slice class.intervals cc) c.map.ensures.closure (omega arith) c.sum-changes.result c.sum-changes.ensures.ran in
     let small = (day_ahead c).bound in
     let price : pos (size_of class.price) ≡ class.price.value = omega (arith, ints) in
     let quantity : pos (size_of class.quantity) ≡ class.quantity.value = omega (arith, ints) in

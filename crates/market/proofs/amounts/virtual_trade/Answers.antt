@@ -11,13 +11,13 @@ pub sum-spreads-requires-clause-fits : goal.sum-spreads-requires-clause-fits
 sum-spreads-requires-clause-fits c =
     let zone = c.args.zone.now in
     hour_fits value_of (spread zone.day_ahead.value) 400000 400000 (λ x r q k. search rules)
-        zone.real_time (YieldsList-from_slice zone.real_time cc) c.map.ensures.closure (omega arith) (omega arith) (omega arith)
+    zone.real_time (YieldsList-from_slice zone.real_time cc) c.map.ensures.closure (omega arith) (omega arith) (omega arith)
 
 spreads : (c : goal.After-from) → (c.sum-spreads.result ≡ total (spread c.args.zone.now.day_ahead.value) (map value_of c.args.zone.now.real_time)) × Between 4800000 4800000 c.sum-spreads.result
 spreads c =
     let zone = c.args.zone.now in
     hour_sum value_of (spread zone.day_ahead.value) 400000 400000 (λ x r q k. search rules)
-        zone.real_time (YieldsList-from_slice zone.real_time cc) c.map.ensures.closure (omega arith) c.sum-spreads.result c.sum-spreads.ensures.ran
+    zone.real_time (YieldsList-from_slice zone.real_time cc) c.map.ensures.closure (omega arith) c.sum-spreads.result c.sum-spreads.ensures.ran
 
 quantity : (c : goal.After-from)
     → Multiplied w32 (to_z w32 (of_z w32 c.sign.result) *ℤ pos 100) c.args.position.now.quantity.value (c.sign.result *ℤ pos 100) c.args.position.now.quantity.value 100000
