@@ -8,7 +8,7 @@ use crate::trade::Trade;
 use ladders::offer::ReserveOffer;
 
 /// Five minutes of the hour: the price, what was scheduled and what the meter read.
-#[derive(Clone, Copy)]
+#[derive(Clone, Copy, Debug, PartialEq, Eq)]
 pub struct Interval {
     pub price: Price,
     pub schedule: Quantity,
@@ -16,7 +16,7 @@ pub struct Interval {
 }
 
 /// The reserve of one interval.
-#[derive(Clone, Copy)]
+#[derive(Clone, Copy, Debug, PartialEq, Eq)]
 pub struct ReserveInterval {
     pub price: ReservePrice,
     pub schedule: Quantity,
@@ -44,14 +44,14 @@ pub struct Position {
 }
 
 /// A virtual position: a quantity that is sold or bought a day ahead and never flows.
-#[derive(Clone, Copy)]
+#[derive(Clone, Copy, Debug, PartialEq, Eq)]
 pub struct VirtualPosition {
     pub trade: Trade,
     pub quantity: Quantity,
 }
 
 /// The prices of the zone, which virtual positions are settled against.
-#[derive(Clone, Copy)]
+#[derive(Clone, Copy, Debug, PartialEq, Eq)]
 pub struct ZonePrices {
     pub day_ahead: Price,
     pub real_time: [Price; 12],
