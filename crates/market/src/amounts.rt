@@ -2,7 +2,7 @@
 
 ghost use Rattle.std.specs.Prelude.{◌≡◌, ◌≤◌, pos, ◌≤ℤ◌, unsigned_abs};
 ghost use Rattle.market.specs.Amounts.{day_ahead_energy, day_ahead_make_whole, energy_payment, imbalance, real_time_make_whole, reserve_change, reserve_payment, spread, virtual_trade};
-ghost use Rattle.market.specs.Amounts.{balancing as balanced, reserve as reserve_line};
+ghost use Rattle.market.specs.Amounts.{balancing as balanced, reserve as reserve_line, reserve_loss};
 ghost use Rattle.market.specs.Views.{interval_of, position_of, reserve_class_of, reserve_interval_of, size_of, virtual_position_of, zone_prices_of};
 
 use crate::figures::{Price, Quantity};
@@ -98,13 +98,20 @@ pub fn day_ahead_make_whole(position: &Position) -> i64
         position.price.value,
         position.quantity.value.unsigned_abs(),
     );
-    let class = &position.reserve;
-    let reserve = lost_profit(
+    12 * (energy + reserve_loss(&position.reserve))
+}
+
+/// The lost profit of a class's day-ahead quantity.
+fn reserve_loss(class: &ReserveClass) -> i64
+    ensures value { result ≡ reserve_loss (reserve_class_of class.now) }
+    ensures sound { pos 0 ≤ℤ result }
+    ensures bound { unsigned_abs result ≤ 40000000000 }
+{
+    lost_profit(
         &class.offer,
         class.price.value,
         class.quantity.value.unsigned_abs(),
-    );
-    12 * (energy + reserve)
+    )
 }
 
 /// The energy payment of one interval: the profit at the economic point, less the larger of the profits at schedule and reading. It
