@@ -1,12 +1,12 @@
-pub mod Adding
-pub mod Bounds
+pub mod Bounding
 pub mod ByLine
 pub mod Deciding
+pub mod Held
 pub mod Laws
+pub mod Made
 pub mod Passed
-pub mod Placing
+pub mod Rounding
 pub mod Setting
 pub mod Settling
 pub mod Sums
 pub mod Tallying
-pub mod Totals

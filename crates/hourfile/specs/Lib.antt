@@ -1,5 +1,4 @@
 pub mod Files
-pub mod Gatherings
 pub mod HourAnswers
 pub mod Hours
 pub mod Lines

@@ -1,5 +1,6 @@
 -- The eight lines, and their amounts in cents.
-use Rattle.std.specs.Prelude.{ℕ, cond, ℤ, pos, Some, None, Option, ◌==◌}
+use Rattle.std.specs.Prelude.{ℕ, cond, List, [], ◌∷◌, ◌++◌, ℤ, pos, Some, None, Option, ◌==◌, slice_index_or}
+use Rattle.std.specs.Fmt.{signed_decimal}
 use Rattle.hourfile.specs.declared.lines.Line.{Line}
 use Rattle.hourfile.specs.declared.lines.Line.TheVariants.{DayAheadEnergy, Balancing, Virtual, Reserve, DayAheadMakeWhole, RealTimeMakeWhole, Uplift, Residual}
 use Rattle.hourfile.specs.declared.lines.Lines.{Lines}
@@ -41,3 +42,40 @@ lines_of amount = record {
 
 abbrev pub no_lines : Lines
 no_lines = lines_of (λ _. pos 0)
+
+-- The amounts in the order of the lines' numbers, and the lines of such amounts.
+abbrev pub amounts_of : Lines → List ℤ
+amounts_of lines =
+    lines.day_ahead_energy
+    ∷ lines.balancing
+    ∷ lines.virtual_trade
+    ∷ lines.reserve
+    ∷ lines.day_ahead_make_whole
+    ∷ lines.real_time_make_whole
+    ∷ lines.uplift
+    ∷ lines.residual
+    ∷ []
+
+abbrev pub lines_from : List ℤ → Lines
+lines_from amounts = record {
+  day_ahead_energy = slice_index_or amounts 0 (pos 0);
+  balancing = slice_index_or amounts 1 (pos 0);
+  virtual_trade = slice_index_or amounts 2 (pos 0);
+  reserve = slice_index_or amounts 3 (pos 0);
+  day_ahead_make_whole = slice_index_or amounts 4 (pos 0);
+  real_time_make_whole = slice_index_or amounts 5 (pos 0);
+  uplift = slice_index_or amounts 6 (pos 0);
+  residual = slice_index_or amounts 7 (pos 0);
+}
+
+-- Numbers in decimal with a space before each, and lines as they are printed: their amounts with a space between.
+abbrev pub spaced : List ℤ → List ℕ
+spaced [] = []
+spaced (z ∷ zs) = 32 ∷ (signed_decimal z ++ spaced zs)
+
+abbrev pub joined : List ℤ → List ℕ
+joined [] = []
+joined (z ∷ zs) = signed_decimal z ++ spaced zs
+
+abbrev pub printed : Lines → List ℕ
+printed lines = joined (amounts_of lines)

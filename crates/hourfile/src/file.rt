@@ -1,6 +1,6 @@
 //! An hour file: 1 to 64 blocks, of which the first is the header and the others are not.
 
-ghost use Rattle.std.specs.Prelude.{◌≡◌, ◌+◌, ◌-◌, ◌*◌, ◌/◌, ◌<◌, ◌≤◌, length, IfOk, Ok, unsigned_abs};
+ghost use Rattle.std.specs.Prelude.{◌≡◌, ◌/◌, ◌%◌, ◌<◌, ◌≤◌, length, IfOk, Ok, unsigned_abs};
 ghost use Rattle.blocks.specs.Firsts.{lifted, unless};
 ghost use Rattle.blocks.specs.Lone.{verdict_in};
 ghost use Rattle.blocks.specs.Records.{opened, record_of};
@@ -16,78 +16,86 @@ use blocks::record::{BLOCK, Record};
 /// The most blocks of a file.
 const MOST_BLOCKS: usize = 64;
 
-/// The position number of a block.
-fn position_number(file: &[u8], block: usize) -> u32
-    requires { block * 512 + 512 ≤ length file.now }
-    ensures { result ≡ unsigned_abs (word_at (part_of file.now block) 1) }
-{
-    let start = block * BLOCK;
-    let part = &file[start..start + BLOCK];
-    i32::from_le_bytes([part[4], part[5], part[6], part[7]]).unsigned_abs()
-}
-
-/// The least position number that the block after `before` may have.
-fn number_from(file: &[u8], before: usize) -> u32
-    requires { before * 512 + 512 ≤ length file.now }
-    ensures { result ≡ number_from file.now before }
-{
-    if before == 0 {
-        1
-    } else {
-        position_number(file, before) + 1
-    }
-}
-
-/// The limits of a block of a file.
-fn limits_at(file: &[u8], owners: u32, block: usize) -> Limits
-    requires { (block * 512 + 512 ≤ length file.now) × (length file.now / 512 ≤ 64) }
-    ensures { result ≡ limits_at file.now owners block }
-{
-    if block == 0 {
-        Limits::first(owners, (file.len() / BLOCK - 1) as u32)
-    } else {
-        Limits::later(file[2], owners, number_from(file, block - 1))
-    }
-}
-
-/// The fault of a block of a file, or none.
-fn check_part(file: &[u8], owners: u32, block: usize) -> Result<(), FileFault>
-    requires { (block * 512 + 512 ≤ length file.now) × (length file.now / 512 ≤ 64) }
-    ensures { result ≡ lifted block_fault (verdict_at file.now owners block) }
-{
-    let start = block * BLOCK;
-    let limits = limits_at(file, owners, block);
-    match open(&file[start..start + BLOCK], block, &limits) {
-        Ok(_) => Ok(()),
-        Err(fault) => Err(fault),
-    }
-}
-
-/// Opens a block of a file, or tells its fault.
-pub(crate) fn open_part<'a>(
-    file: &'a [u8],
+/// A file of 1 to 64 whole blocks, for a day of so many owners.
+#[derive(Clone, Copy)]
+pub(crate) struct HourFile<'a> {
+    bytes: &'a [u8],
     owners: u32,
-    block: usize,
-) -> Result<Record<'a>, FileFault>
-    requires { (block * 512 + 512 ≤ length file.now) × (length file.now / 512 ≤ 64) }
-    ensures verdict { verdict_in result ≡ lifted block_fault (verdict_at file.now owners block) }
-    ensures opens { IfOk result (λ rec. record_of (part_of file.now block) block ≡ Ok (opened rec)) }
-{
-    let start = block * BLOCK;
-    let limits = limits_at(file, owners, block);
-    open(&file[start..start + BLOCK], block, &limits)
+    ghost whole: { length bytes.now % 512 ≡ 0 },
+    ghost some: { 1 ≤ length bytes.now / 512 },
+    ghost few: { length bytes.now / 512 ≤ 64 },
 }
 
-/// How many blocks a file has, which is 1 to 64 whole ones.
-pub(crate) fn block_count(file: &[u8]) -> Result<usize, FileFault>
-    ensures verdict { verdict_in result ≡ unless (right_length file.now) length_fault }
-    ensures count { IfOk result (λ n. (n ≡ blocks_in file.now) × (1 ≤ n) × (n ≤ 64)) }
-{
-    let blocks = file.len() / BLOCK;
-    if file.len() % BLOCK != 0 || blocks == 0 || blocks > MOST_BLOCKS {
-        Err(FileFault::Length)
-    } else {
-        Ok(blocks)
+impl<'a> HourFile<'a> {
+    /// The file, if its length is right.
+    pub(crate) fn new(bytes: &'a [u8], owners: u32) -> Result<HourFile<'a>, FileFault>
+        ensures verdict { verdict_in result ≡ unless (right_length bytes.now) length_fault }
+        ensures same { IfOk result (λ file. file.bytes.now ≡ bytes.now) }
+        ensures owned { IfOk result (λ file. file.owners ≡ owners) }
+    {
+        let blocks = bytes.len() / BLOCK;
+        if bytes.len() % BLOCK == 0 && (1..=MOST_BLOCKS).contains(&blocks) {
+            Ok(HourFile { bytes, owners })
+        } else {
+            Err(FileFault::Length)
+        }
+    }
+
+    /// How many blocks the file has.
+    pub(crate) fn blocks(&self) -> usize
+        ensures { result ≡ blocks_in self.now.bytes.now }
+    {
+        self.bytes.len() / BLOCK
+    }
+
+    /// The bytes of a block.
+    fn part(&self, block: usize) -> &'a [u8]
+        requires { block < blocks_in self.now.bytes.now }
+        ensures { result.now ≡ part_of self.now.bytes.now block }
+    {
+        let start = block * BLOCK;
+        &self.bytes[start..start + BLOCK]
+    }
+
+    /// The position number of a block.
+    fn position_number(&self, block: usize) -> u32
+        requires { block < blocks_in self.now.bytes.now }
+        ensures { result ≡ unsigned_abs (word_at (part_of self.now.bytes.now block) 1) }
+    {
+        let part = self.part(block);
+        i32::from_le_bytes([part[4], part[5], part[6], part[7]]).unsigned_abs()
+    }
+
+    /// The least position number that the block after `before` may have.
+    fn number_from(&self, before: usize) -> u32
+        requires { before < blocks_in self.now.bytes.now }
+        ensures { result ≡ number_from self.now.bytes.now before }
+    {
+        if before == 0 {
+            1
+        } else {
+            self.position_number(before) + 1
+        }
+    }
+
+    /// What a block may say where it stands.
+    fn limits(&self, block: usize) -> Limits
+        requires { block < blocks_in self.now.bytes.now }
+        ensures { result ≡ limits_at self.now.bytes.now self.now.owners block }
+    {
+        match block.checked_sub(1) {
+            None => Limits::first(self.owners, self.blocks() as u32 - 1),
+            Some(before) => Limits::later(self.bytes[2], self.owners, self.number_from(before)),
+        }
+    }
+
+    /// Opens a block, or tells its fault. A block is opened by its number, since what it may say stands in the block before it.
+    pub(crate) fn open(&self, block: usize) -> Result<Record<'a>, FileFault>
+        requires { block < blocks_in self.now.bytes.now }
+        ensures verdict { verdict_in result ≡ lifted block_fault (verdict_at self.now.bytes.now self.now.owners block) }
+        ensures opens { IfOk result (λ rec. record_of (part_of self.now.bytes.now block) block ≡ Ok (opened rec)) }
+    {
+        open(self.part(block), block, &self.limits(block))
     }
 }
 
@@ -96,12 +104,9 @@ pub fn check_file(file: &[u8], owners: u32) -> Result<(), FileFault>
     ensures verdict { result ≡ file_verdict file.now owners }
     ensures first { FirstBlockDecides file.now owners result }
 {
-    let blocks = file.len() / BLOCK;
-    if file.len() % BLOCK != 0 || blocks == 0 || blocks > MOST_BLOCKS {
-        return Err(FileFault::Length);
-    }
-    for block in 0..blocks {
-        check_part(file, owners, block)?;
+    let file = HourFile::new(file, owners)?;
+    for block in 0..file.blocks() {
+        file.open(block)?;
     }
     Ok(())
 }

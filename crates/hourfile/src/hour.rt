@@ -1,14 +1,14 @@
 //! What an hour comes to: the eight lines of every place.
 
-ghost use Rattle.std.specs.Prelude.{◌≡◌, ℕ, ◌+◌, ◌<◌, ◌≤◌, length, replicate, pos, IfOk, slice_index, slice_index_or, unsigned_abs};
+ghost use Rattle.std.specs.Prelude.{◌≡◌, ℕ, ◌<◌, ◌≤◌, ℤ, length, pos, IfOk, slice_index, slice_index_or, unsigned_abs};
 ghost use Rattle.blocks.specs.Lone.{verdict_in};
 ghost use Rattle.hourfile.specs.Files.{file_verdict};
 ghost use Rattle.hourfile.specs.HourAnswers.{Settles};
-ghost use Rattle.hourfile.specs.Gatherings.{gathered_part};
 ghost use Rattle.hourfile.specs.Hours.{shared_line, sum_below};
 ghost use Rattle.hourfile.specs.Lines.{line_of, no_lines};
 ghost use Rattle.hourfile.specs.Tallies.{grains_on, no_tally};
 ghost use Rattle.hourfile.specs.declared.lines.Line.{Line};
+ghost use Rattle.hourfile.specs.declared.lines.Lines.{Lines};
 ghost use Rattle.market.specs.Cents.{nearest_cent};
 ghost use Rattle.pools.specs.Sharing.{Shared, weights};
 
@@ -18,93 +18,51 @@ use crate::owners::Owners;
 use crate::tallies::tallies;
 use crate::tally::Tally;
 use blocks::fault::FileFault;
-use market::cents::to_cents;
 use pools::basis::Basis;
 use pools::pool::{Pool, Shares, share};
 use pools::withdrawals::Withdrawals;
+use std::array;
 
-/// The lines of a tally in cents, each rounded once.
-fn rounded(tally: Tally) -> Lines
-    ensures { (line : Line) → line_of result line ≡ nearest_cent (grains_on tally line) }
+/// The own lines of a place: those of its owner, or nothing.
+fn own(owned: &[Tally], place: usize) -> Lines
+    ensures { (line : Line) → line_of result line ≡ nearest_cent (grains_on (slice_index_or owned.now place no_tally) line) }
 {
-    Lines {
-        day_ahead_energy: to_cents(tally.day_ahead_energy),
-        balancing: to_cents(tally.balancing),
-        virtual_trade: to_cents(tally.virtual_trade),
-        reserve: to_cents(tally.reserve),
-        day_ahead_make_whole: to_cents(tally.day_ahead_make_whole),
-        real_time_make_whole: to_cents(tally.real_time_make_whole),
-        uplift: 0,
-        residual: 0,
-    }
+    owned
+        .get(place)
+        .map_or(Lines::none(), |tally| tally.rounded())
 }
 
-/// No place has anything.
-fn no_places() -> [Lines; 33]
-    ensures { result ≡ replicate 33 no_lines }
-{
-    [Lines::none(); 33]
-}
-
-/// The owners' own lines, by place. The operator has none.
-fn own_lines(tallies: &[Tally; 32], owners: Owners) -> [Lines; 33]
+/// The own lines of every place. The operator has none.
+fn own_lines(owned: &[Tally]) -> [Lines; 33]
+    requires { length owned.now ≤ 32 }
     ensures whole { length result ≡ 33 }
-    ensures owned { (place : ℕ) (line : Line) → place < owners.number → line_of (slice_index_or result place no_lines) line ≡ nearest_cent (grains_on (slice_index_or tallies.now place no_tally) line) }
-    ensures others { (place : ℕ) → owners.number ≤ place → slice_index_or result place no_lines ≡ no_lines }
+    ensures lines { (place : ℕ) (line : Line) → line_of (slice_index_or result place no_lines) line ≡ nearest_cent (grains_on (slice_index_or owned.now place no_tally) line) }
 {
-    let mut places = no_places();
-    for place in 0..owners.number as usize {
-        places[place] = rounded(tallies[place]);
-    }
-    places
+    array::from_fn(|place| own(owned, place))
 }
 
 /// What the owners withdrew.
 fn withdrawals(tallies: &[Tally; 32], owners: Owners) -> Withdrawals
     ensures count { result.owners ≡ owners.number }
-    ensures quantities { (place : ℕ) → place < owners.number → slice_index result.quantities place ≡ (slice_index_or tallies.now place no_tally).withdrawn }
+    ensures quantities { (place : ℕ) → slice_index result.quantities place ≡ (slice_index_or tallies.now place no_tally).withdrawn }
 {
-    let mut quantities = [0; 32];
-    for place in 0..owners.number as usize {
-        quantities[place] = tallies[place].withdrawn;
-    }
     Withdrawals {
-        quantities,
+        quantities: array::from_fn(|place| tallies[place].withdrawn),
         owners: owners.number as usize,
     }
 }
 
-/// The lines that a pool gathers: the residual pool 1 to 3, which it pays back, and the uplift pool 4 to 6.
-#[derive(Clone, Copy)]
-enum Gathered {
-    Trade,
-    Uplift,
-}
-
-/// The gathered lines of a place together.
-fn gathered_part(gathered: Gathered, lines: Lines) -> i64
-    requires { (line : Line) → unsigned_abs (line_of lines line) ≤ 6000000000 }
-    ensures exact { result ≡ gathered_part gathered (line_of lines) }
-    ensures bound { unsigned_abs result ≤ 18000000000 }
-{
-    match gathered {
-        Gathered::Trade => lines.day_ahead_energy + lines.balancing + lines.virtual_trade,
-        Gathered::Uplift => {
-            lines.reserve + lines.day_ahead_make_whole + lines.real_time_make_whole
-        }
-    }
-}
-
-/// The gathered lines of all owners together.
-fn gathered_total(gathered: Gathered, places: &[Lines]) -> i64
-    requires few { length places.now ≤ 32 }
-    requires small { (place : ℕ) (line : Line) → unsigned_abs (line_of (slice_index_or places.now place no_lines) line) ≤ 6000000000 }
-    ensures exact { result ≡ sum_below (λ place. gathered_part gathered (line_of (slice_index_or places.now place no_lines))) (length places.now) }
+/// A part of the lines of all owners together.
+fn total<F: Fn(Lines) -> i64>(owned: &[Lines], part: F) -> i64
+    requires few { length owned.now ≤ 32 }
+    requires callable { (place : ℕ) → place < length owned.now → F.pre part (slice_index_or owned.now place no_lines) }
+    requires small { (place : ℕ) (z : ℤ) → place < length owned.now → F.post part (slice_index_or owned.now place no_lines) z → unsigned_abs z ≤ 18000000000 }
+    ensures exact { (amount : Lines → ℤ) → ((lines : Lines) (z : ℤ) → F.post part lines z → z ≡ amount lines) → result ≡ sum_below (λ place. amount (slice_index_or owned.now place no_lines)) (length owned.now) }
     ensures bound { unsigned_abs result ≤ 1000000000000 }
 {
     let mut total = 0;
-    for lines in places {
-        total += gathered_part(gathered, *lines);
+    for lines in owned {
+        total += part(*lines);
     }
     total
 }
@@ -114,22 +72,7 @@ fn shared<B: Basis>(amount: i64, basis: &B, withdrawn: &Withdrawals) -> Shares
     requires { unsigned_abs amount ≤ 14000000000 }
     ensures { Shared amount (weights B.weighs basis.now withdrawn.now.quantities) withdrawn.now.owners result.owners result.operator }
 {
-    match Pool::strike(amount) {
-        Some(pool) => share(pool, basis, withdrawn),
-        None => unreachable(),
-    }
-}
-
-/// The lines of a place with its parts in the pools: line 7 is minus that in the uplift pool, line 8 that in the residual pool.
-fn with_parts(lines: Lines, uplift: i64, residual: i64) -> Lines
-    requires { unsigned_abs uplift ≤ 14000000000 }
-    ensures { (line : Line) → line_of result line ≡ shared_line (line_of lines) uplift residual line }
-{
-    Lines {
-        uplift: -uplift,
-        residual,
-        ..lines
-    }
+    share(Pool::strike(amount).unwrap(), basis, withdrawn)
 }
 
 /// Gives every place its parts in the pools, the operator last.
@@ -142,10 +85,10 @@ fn add_parts(places: &mut [Lines; 33], owners: Owners, uplift: &Shares, residual
     ensures others { (place : ℕ) → owners.number < place → slice_index_or places.new place no_lines ≡ slice_index_or places.old place no_lines }
 {
     let count = owners.number as usize;
-    for place in 0..count {
-        places[place] = with_parts(places[place], uplift.owners[place], residual.owners[place]);
+    for (place, lines) in places[..count].iter_mut().enumerate() {
+        *lines = lines.with_parts(uplift.owners[place], residual.owners[place]);
     }
-    places[count] = with_parts(places[count], uplift.operator, residual.operator);
+    places[count] = places[count].with_parts(uplift.operator, residual.operator);
 }
 
 /// The eight lines of every place of an hour, or the first fault of its file. Lines 1 to 6 are summed over a place's positions and
@@ -161,10 +104,10 @@ pub fn settle<U: Basis, R: Basis>(
 {
     let tallies = tallies(file, owners)?;
     let withdrawn = withdrawals(&tallies, owners);
-    let mut places = own_lines(&tallies, owners);
-    let owned = &places[0..owners.number as usize];
-    let uplift_pool = gathered_total(Gathered::Uplift, owned);
-    let residual_pool = -gathered_total(Gathered::Trade, owned);
+    let mut places = own_lines(&tallies[..owners.number as usize]);
+    let owned = &places[..owners.number as usize];
+    let uplift_pool = total(owned, Lines::uplift_part);
+    let residual_pool = -total(owned, Lines::trade_part);
     let uplift_shares = shared(uplift_pool, uplift, &withdrawn);
     let residual_shares = shared(residual_pool, residual, &withdrawn);
     add_parts(&mut places, owners, &uplift_shares, &residual_shares);

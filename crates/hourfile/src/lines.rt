@@ -1,10 +1,14 @@
 //! The eight lines of a place.
 
-ghost use Rattle.hourfile.specs.Lines.{line_numbered, line_of, no_lines};
-ghost use Rattle.std.specs.Prelude.{◌≡◌};
+ghost use Rattle.hourfile.specs.Hours.{shared_line, trade_part, uplift_part};
+ghost use Rattle.hourfile.specs.Lines.{amounts_of, line_numbered, line_of, lines_from, no_lines, printed};
+ghost use Rattle.hourfile.specs.declared.lines.Line.{Line};
+ghost use Rattle.std.specs.Prelude.{◌≡◌, ◌≤◌, Some, unsigned_abs};
+
+use std::fmt;
 
 /// A line, by what it pays.
-#[derive(Clone, Copy)]
+#[derive(Clone, Copy, Debug, PartialEq, Eq)]
 pub enum Line {
     DayAheadEnergy,
     Balancing,
@@ -17,7 +21,7 @@ pub enum Line {
 }
 
 /// The amounts of the eight lines, in cents.
-#[derive(Clone, Copy)]
+#[derive(Clone, Copy, Debug, Default, PartialEq, Eq)]
 pub struct Lines {
     pub day_ahead_energy: i64,
     pub balancing: i64,
@@ -53,16 +57,7 @@ impl Lines {
     pub fn none() -> Lines
         ensures { result ≡ no_lines }
     {
-        Lines {
-            day_ahead_energy: 0,
-            balancing: 0,
-            virtual_trade: 0,
-            reserve: 0,
-            day_ahead_make_whole: 0,
-            real_time_make_whole: 0,
-            uplift: 0,
-            residual: 0,
-        }
+        Lines::default()
     }
 
     /// The amount of a line.
@@ -79,5 +74,100 @@ impl Lines {
             Line::Uplift => self.uplift,
             Line::Residual => self.residual,
         }
+    }
+
+    /// Lines 4 to 6 together, which the uplift pool gathers.
+    pub(crate) fn uplift_part(self) -> i64
+        requires { (line : Line) → unsigned_abs (line_of self line) ≤ 6000000000 }
+        ensures exact { result ≡ uplift_part (line_of self) }
+        ensures bound { unsigned_abs result ≤ 18000000000 }
+    {
+        self.reserve + self.day_ahead_make_whole + self.real_time_make_whole
+    }
+
+    /// Lines 1 to 3 together, which the residual pool pays back.
+    pub(crate) fn trade_part(self) -> i64
+        requires { (line : Line) → unsigned_abs (line_of self line) ≤ 6000000000 }
+        ensures exact { result ≡ trade_part (line_of self) }
+        ensures bound { unsigned_abs result ≤ 18000000000 }
+    {
+        self.day_ahead_energy + self.balancing + self.virtual_trade
+    }
+
+    /// The lines with the place's parts in the pools: line 7 is minus that in the uplift pool, line 8 that in the residual pool.
+    pub(crate) fn with_parts(self, uplift: i64, residual: i64) -> Lines
+        requires { unsigned_abs uplift ≤ 14000000000 }
+        ensures { (line : Line) → line_of result line ≡ shared_line (line_of self) uplift residual line }
+    {
+        Lines {
+            uplift: -uplift,
+            residual,
+            ..self
+        }
+    }
+}
+
+/// The amounts in the order of the lines' numbers.
+impl From<[i64; 8]> for Lines {
+    ghost from_gives = { λ amounts lines. lines ≡ lines_from amounts };
+
+    fn from(amounts: [i64; 8]) -> Lines {
+        let [
+            day_ahead_energy,
+            balancing,
+            virtual_trade,
+            reserve,
+            day_ahead_make_whole,
+            real_time_make_whole,
+            uplift,
+            residual,
+        ] = amounts;
+        Lines {
+            day_ahead_energy,
+            balancing,
+            virtual_trade,
+            reserve,
+            day_ahead_make_whole,
+            real_time_make_whole,
+            uplift,
+            residual,
+        }
+    }
+}
+
+impl From<Lines> for [i64; 8] {
+    ghost from_gives = { λ lines amounts. amounts ≡ amounts_of lines };
+
+    fn from(lines: Lines) -> [i64; 8] {
+        [
+            lines.day_ahead_energy,
+            lines.balancing,
+            lines.virtual_trade,
+            lines.reserve,
+            lines.day_ahead_make_whole,
+            lines.real_time_make_whole,
+            lines.uplift,
+            lines.residual,
+        ]
+    }
+}
+
+/// The amounts in the order of the lines' numbers, with a space between.
+impl fmt::Display for Lines {
+    ghost output = { λ lines. Some (printed lines) };
+
+    fn fmt<W: fmt::Write>(&self, f: &mut fmt::Formatter<W>) -> fmt::Result {
+        write!(
+            f,
+            "{} {} {} {} {} {} {} {}",
+            self.day_ahead_energy,
+            self.balancing,
+            self.virtual_trade,
+            self.reserve,
+            self.day_ahead_make_whole,
+            self.real_time_make_whole,
+            self.uplift,
+            self.residual
+        )
     }
 }

@@ -1,91 +1,84 @@
 //! The tally of each place, in one pass over the blocks of a file.
 
-ghost use Rattle.std.specs.Prelude.{◌≡◌, ◌≤◌, true, length, replicate, IfOk, Some};
+ghost use Rattle.std.specs.Prelude.{◌≡◌, ◌<◌, ◌≤◌, true, length, IfOk, Some};
+ghost use Rattle.blocks.specs.Firsts.{lifted};
 ghost use Rattle.blocks.specs.Lone.{verdict_in};
 ghost use Rattle.blocks.specs.Records.{opened};
-ghost use Rattle.hourfile.specs.Files.{file_verdict};
-ghost use Rattle.hourfile.specs.Hours.{kind_line, kind_withdrawn, position_line, virtual_line, withdrawn_in};
-ghost use Rattle.hourfile.specs.Tallies.{HasMeaning, Tallied, grains_on, no_tally};
+ghost use Rattle.blocks.specs.Words.{byte_at};
+ghost use Rattle.blocks.specs.declared.fault.FileFault.TheVariants.{Block as block_fault};
+ghost use Rattle.blocks.specs.declared.kind.Kind.TheVariants.{Resource as resource_kind, Virtual as virtual_kind};
+ghost use Rattle.hourfile.specs.Files.{blocks_in, file_verdict, part_of, verdict_at};
+ghost use Rattle.hourfile.specs.HourAnswers.{hour_of};
+ghost use Rattle.hourfile.specs.Hours.{block_line, block_withdrawn, kind_line, kind_withdrawn};
+ghost use Rattle.hourfile.specs.Tallies.{InBounds, Tallied, grains_on};
 ghost use Rattle.hourfile.specs.declared.lines.Line.{Line};
 ghost use Rattle.market.specs.Views.{zone_prices_of};
-ghost use Rattle.records.specs.Contents.{has_position, has_virtual_position, has_zone_prices, position_at, virtual_position_at, zone_prices_at};
+ghost use Rattle.records.specs.Contents.{has_position, has_virtual_position, zone_prices_at};
 
-use crate::file::{block_count, open_part};
+use crate::file::HourFile;
 use crate::owners::Owners;
 use crate::tally::Tally;
 use blocks::fault::FileFault;
 use blocks::kind::Kind;
-use blocks::record::{BLOCK, Record};
+use blocks::record::Record;
 use market::position::ZonePrices;
 use records::{position, virtual_position, zone_prices};
 
-/// The zone prices of a header that passed its check.
-fn prices_of(header: &Record) -> ZonePrices
-    requires { has_zone_prices (opened header.now) ≡ true }
-    ensures { zone_prices_of result ≡ zone_prices_at (opened header.now).part }
+/// The zone prices of the header.
+fn zone(file: &HourFile) -> Result<ZonePrices, FileFault>
+    ensures verdict { verdict_in result ≡ lifted block_fault (verdict_at file.now.bytes.now file.now.owners 0) }
+    ensures prices { IfOk result (λ zone. zone_prices_of zone ≡ zone_prices_at (part_of file.now.bytes.now 0)) }
 {
-    match zone_prices(header) {
-        Some(prices) => prices,
-        None => unreachable(),
-    }
-}
-
-/// What a resource that passed its check comes to.
-fn resource_tally(block: &Record) -> Tally
-    requires { has_position (opened block.now) ≡ true }
-    ensures grains { (line : Line) → grains_on result line ≡ position_line (position_at (opened block.now).part) line }
-    ensures withdrawn { result.withdrawn ≡ withdrawn_in (position_at (opened block.now).part) }
-{
-    match position(block) {
-        Some(position) => Tally::of_position(&position),
-        None => unreachable(),
-    }
-}
-
-/// What a virtual position that passed its check comes to.
-fn virtual_tally(zone: &ZonePrices, block: &Record) -> Tally
-    requires { has_virtual_position (opened block.now) ≡ true }
-    ensures grains { (line : Line) → grains_on result line ≡ virtual_line (zone_prices_of zone.now) (virtual_position_at (opened block.now).part) line }
-    ensures withdrawn { result.withdrawn ≡ 0 }
-{
-    match virtual_position(block) {
-        Some(position) => Tally::of_virtual(zone, &position),
-        None => unreachable(),
-    }
+    Ok(zone_prices(&file.open(0)?).unwrap())
 }
 
 /// What a block that passed its check comes to.
 fn block_tally(zone: &ZonePrices, block: &Record) -> Tally
-    requires { HasMeaning (opened block.now) }
+    requires resource { (opened block.now).kind ≡ resource_kind → has_position (opened block.now) ≡ true }
+    requires traded { (opened block.now).kind ≡ virtual_kind → has_virtual_position (opened block.now) ≡ true }
     ensures grains { (line : Line) → grains_on result line ≡ kind_line (Some (opened block.now).kind) (zone_prices_of zone.now) (opened block.now).part line }
     ensures withdrawn { result.withdrawn ≡ kind_withdrawn (Some (opened block.now).kind) (opened block.now).part }
+    ensures bounds { InBounds (grains_on result) result.withdrawn }
 {
     match block.kind() {
-        Kind::Header => Tally::none(),
-        Kind::Resource => resource_tally(block),
-        Kind::Virtual => virtual_tally(zone, block),
+        Kind::Header => Tally::default(),
+        Kind::Resource => Tally::of_position(&position(block).unwrap()),
+        Kind::Virtual => Tally::of_virtual(zone, &virtual_position(block).unwrap()),
     }
 }
 
-/// No owner has anything.
-fn no_tallies() -> [Tally; 32]
-    ensures { result ≡ replicate 32 no_tally }
+/// The place of a block after the header, and what the block comes to.
+fn placed(file: &HourFile, zone: &ZonePrices, block: usize) -> Result<(usize, Tally), FileFault>
+    requires later { 1 ≤ block }
+    requires inside { block < blocks_in file.now.bytes.now }
+    requires priced { zone_prices_of zone.now ≡ zone_prices_at (part_of file.now.bytes.now 0) }
+    ensures verdict { verdict_in result ≡ lifted block_fault (verdict_at file.now.bytes.now file.now.owners block) }
+    ensures place { IfOk result (λ placed. placed.0 ≡ byte_at (part_of file.now.bytes.now block) 3) }
+    ensures owned { IfOk result (λ placed. placed.0 < file.now.owners) }
+    ensures grains { IfOk result (λ placed. (line : Line) → grains_on placed.1 line ≡ block_line file.now.bytes.now line block) }
+    ensures withdrawn { IfOk result (λ placed. placed.1.withdrawn ≡ block_withdrawn file.now.bytes.now block) }
+    ensures bounds { IfOk result (λ placed. InBounds (grains_on placed.1) placed.1.withdrawn) }
 {
-    [Tally::none(); 32]
+    let record = file.open(block)?;
+    let place = usize::from(record.part()[3]);
+    Ok((place, block_tally(zone, &record)))
 }
 
 /// The tally of each place, or the first fault of the file.
 pub(crate) fn tallies(file: &[u8], owners: Owners) -> Result<[Tally; 32], FileFault>
     ensures verdict { verdict_in result ≡ file_verdict file.now owners.number }
-    ensures tallied { IfOk result (λ all. (length all ≡ 32) × Tallied file.now all) }
+    ensures whole { IfOk result (λ all. length all ≡ 32) }
+    ensures tallied { IfOk result (λ all. Tallied file.now all) }
+    ensures few { IfOk result (λ _. blocks_in file.now ≤ 64) }
+    ensures from { IfOk result (λ _. 1 ≤ hour_of file.now) }
+    ensures to { IfOk result (λ _. hour_of file.now ≤ 24) }
 {
-    let blocks = block_count(file)?;
-    let zone = prices_of(&open_part(file, owners.number, 0)?);
-    let mut all = no_tallies();
-    for block in 1..blocks {
-        let record = open_part(file, owners.number, block)?;
-        let place = usize::from(file[block * BLOCK + 3]);
-        all[place] = all[place].plus(block_tally(&zone, &record));
+    let file = HourFile::new(file, owners.number)?;
+    let zone = zone(&file)?;
+    let mut all = [Tally::default(); 32];
+    for block in 1..file.blocks() {
+        let (place, tally) = placed(&file, &zone, block)?;
+        all[place] += tally;
     }
     Ok(all)
 }

@@ -5,4 +5,4 @@ use Rattle.hourfile.specs.Files.{verdict_at}
 use Rattle.hourfile.proofs.file.check_file.Given as goal
 
 abbrev pub invariant-loop-block : goal.invariant-loop-block
-invariant-loop-block l = up_to (λ block. lifted Block (verdict_at l.file l.owners block)) l.block ≡ Ok tt
+invariant-loop-block l = up_to (λ block. lifted Block (verdict_at l.file.bytes.now l.file.owners block)) l.block ≡ Ok tt

@@ -1,50 +1,59 @@
-use Rattle.std.proofs.Common.{◌≡◌, ℕ, ◌<◌, length, get_or, set, pos, sym, ap, ◌∙◌, subst, ⊎_elim, arith, length-set, w64, SFits, rules}
+use Rattle.std.proofs.Common.{◌≡◌, ◌<◌, ◌≢◌, length, drop, get_or, pos, ap, ◌∙◌, arith, rules, below_more, get_or-set_other, get_or-set_same, get_or-take, length-append, length-drop, length-take-le, w64, SFits}
 use Rattle.std.proofs.lemmas.Int.{to_z-of_z}
-use Rattle.std.proofs.lemmas.Bool.{cases_eq}
-use Rattle.hourfile.specs.declared.lines.Line.{Line}
+use Rattle.std.proofs.lemmas.List.{get_or_append_left}
 use Rattle.hourfile.specs.Hours.{shared_line}
 use Rattle.hourfile.specs.Lines.{line_of, no_lines}
-use Rattle.hourfile.proofs.Setting.{parts_same, written_here, written_other}
+use Rattle.hourfile.proofs.Setting.{behind, parts_same}
 use Rattle.hourfile.proofs.hour.add_parts.Goals as goal
+use Rattle.hourfile.proofs.hour.add_parts.Goals.{After-with_parts-2}
 
 pub loop-place-preserved : goal.loop-place-preserved
 loop-place-preserved c =
-    let places = c.loop-place.places in
+    let items = c.loop-place.lines-items in
     let here = c.loop-place.place in
-    let new = c.with_parts.result in
-    let size = c.loop-place.invariant.0 in
-    let room : here < length places = omega arith in
-    let before_it = c.args.places.now in
-    let uplift = c.args.uplift.now.owners in
-    let residual = c.args.residual.now.owners in
-    let fits_uplift : SFits w64 (get_or uplift here (pos 0)) = search rules in
-    let fits_residual : SFits w64 (get_or residual here (pos 0)) = search rules in
-    let same : (line : Line) → line_of (get_or places here no_lines) line ≡ line_of (get_or before_it here no_lines) line = λ line. ap (λ x. line_of x line) (c.loop-place.invariant.2 here (omega arith)) in (
-      length-set places here new ∙ size,
-      λ place line h.
-          ⊎_elim
-          (λ e. subst (λ (k : ℕ). line_of (get_or (set places here new) k no_lines) line ≡ shared_line (line_of (get_or before_it k no_lines)) (get_or uplift k (pos 0)) (get_or residual k (pos 0)) line) (sym e)
-          (ap (λ x. line_of x line) (written_here places here new room) ∙ c.with_parts.ensures line ∙ parts_same _ _ _ _ _ _ same (to_z-of_z w64 _ fits_uplift) (to_z-of_z w64 _ fits_residual) line))
-          (λ ne. ap (λ x. line_of x line) (written_other places here new place ne) ∙ c.loop-place.invariant.1 place line (omega arith))
-          (cases_eq place here),
-      λ place h. written_other places here new place (λ e. omega arith) ∙ c.loop-place.invariant.2 place (omega arith),
-    )
+    let room : here < length items = omega arith in
+    let fits_uplift : SFits w64 (get_or c.args.uplift.now.owners here (pos 0)) = search rules in
+    let fits_residual : SFits w64 (get_or c.args.residual.now.owners here (pos 0)) = search rules in
+    let same = c.loop-place.invariant.others here (omega arith) in
+    record {
+      owned = below_more _ _
+          (λ place h line. let ne : place ≢ here = omega arith in rw get_or-set_other (c.loop-place.invariant.owned place h line))
+          (λ line.
+          ap (λ x. line_of x line) (get_or-set_same items here c.with_parts.result no_lines room)
+          ∙ c.with_parts.ensures line
+          ∙ parts_same _ _ _ _ _ _ (λ l. ap (λ x. line_of x l) same) (to_z-of_z w64 _ fits_uplift) (to_z-of_z w64 _ fits_residual) line);
+      others = λ place h. let ne : place ≢ here = omega arith in rw get_or-set_other (c.loop-place.invariant.others place (omega arith));
+    }
 
-pub returns : goal.returns
-returns c =
-    let places = c.loop-place.places in
-    let here = c.args.owners.number in
-    let new = c.with_parts-2.result in
-    let size = c.loop-place.invariant.0 in
-    let all : c.loop-place.place ≡ here = omega arith in
-    let room : here < length places = omega arith in
-    let before_it = c.args.places.now in
+-- the lines of the owners, which the loop wrote
+front_length : (c : After-with_parts-2) → length c.loop-place.lines-items ≡ c.args.owners.number
+front_length c = c.loop-place.auto.lines-items ∙ length-take-le _ _ (omega arith)
+
+pub returns-clause-owned : goal.returns-clause-owned
+returns-clause-owned c place line h =
+    let places = c.args.places.now in
+    let count = c.args.owners.number in
+    let long = front_length (goal.at.returns-clause-owned c).After-with_parts-2 in
+    let inside : place < length c.loop-place.lines-items = omega arith in
+    let ne : place ≢ count = omega arith in
+    ap (λ x. line_of x line) (get_or-set_other _ count place c.with_parts-2.result no_lines ne ∙ get_or_append_left c.loop-place.lines-items _ no_lines place inside)
+    ∙ c.loop-place.invariant.owned place (omega arith) line
+    ∙ ap (λ x. shared_line (line_of x) (get_or c.args.uplift.now.owners place (pos 0)) (get_or c.args.residual.now.owners place (pos 0)) line) (get_or-take count places place no_lines h)
+
+pub returns-clause-operator : goal.returns-clause-operator
+returns-clause-operator c line =
+    let count = c.args.owners.number in
+    let long = front_length (goal.at.returns-clause-operator c).After-with_parts-2 in
     let fits_uplift : SFits w64 c.args.uplift.now.operator = search rules in
     let fits_residual : SFits w64 c.args.residual.now.operator = search rules in
-    let same : (line : Line) → line_of (get_or places here no_lines) line ≡ line_of (get_or before_it here no_lines) line = λ line. ap (λ x. line_of x line) (c.loop-place.invariant.2 here (omega arith)) in
-    record {
-      whole = length-set places here new ∙ size;
-      owned = λ place line h. ap (λ x. line_of x line) (written_other places here new place (λ e. omega arith)) ∙ c.loop-place.invariant.1 place line (omega arith);
-      operator = λ line. ap (λ x. line_of x line) (written_here places here new room) ∙ c.with_parts-2.ensures line ∙ parts_same _ _ _ _ _ _ same (to_z-of_z w64 _ fits_uplift) (to_z-of_z w64 _ fits_residual) line;
-      others = λ place h. written_other places here new place (λ e. omega arith) ∙ c.loop-place.invariant.2 place (omega arith);
-    }
+    let same = behind c.loop-place.lines-items c.args.places.now count count no_lines long (omega arith) in
+    ap (λ x. line_of x line) (get_or-set_same _ count c.with_parts-2.result no_lines (omega (arith, length-append c.loop-place.lines-items (drop count c.args.places.now), length-drop count c.args.places.now)))
+    ∙ c.with_parts-2.ensures line
+    ∙ parts_same _ _ _ _ _ _ (λ l. ap (λ x. line_of x l) same) (to_z-of_z w64 _ fits_uplift) (to_z-of_z w64 _ fits_residual) line
+
+pub returns-clause-others : goal.returns-clause-others
+returns-clause-others c place h =
+    let count = c.args.owners.number in
+    let long = front_length (goal.at.returns-clause-others c).After-with_parts-2 in
+    let ne : place ≢ count = omega arith in
+    rw get_or-set_other (behind c.loop-place.lines-items c.args.places.now count place no_lines long (omega arith))

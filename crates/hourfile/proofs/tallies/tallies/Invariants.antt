@@ -6,7 +6,8 @@ use Rattle.hourfile.specs.Tallies.{TalliedUpto}
 use Rattle.hourfile.proofs.tallies.tallies.Given as goal
 
 abbrev pub invariant-loop-block : goal.invariant-loop-block
-invariant-loop-block l =
-    (up_to (λ block. lifted Block (verdict_at l.file l.owners.number block)) l.block ≡ Ok tt)
-    × (length l.all ≡ 32)
-    × TalliedUpto l.file l.all l.block
+invariant-loop-block l = record {
+  passed : up_to (λ block. lifted Block (verdict_at l.file.bytes.now l.file.owners block)) l.block ≡ Ok tt;
+  whole : length l.all ≡ 32;
+  tallied : TalliedUpto l.file.bytes.now l.all l.block;
+}
