@@ -4,7 +4,7 @@ ghost use Rattle.hourfile.specs.Lines.{line_numbered, line_of, no_lines};
 ghost use Rattle.std.specs.Prelude.{◌≡◌};
 
 /// A line, by what it pays.
-#[derive(Clone, Copy)]
+#[derive(Clone, Copy, Debug, PartialEq, Eq)]
 pub enum Line {
     DayAheadEnergy,
     Balancing,
@@ -17,7 +17,7 @@ pub enum Line {
 }
 
 /// The amounts of the eight lines, in cents.
-#[derive(Clone, Copy)]
+#[derive(Clone, Copy, Debug, PartialEq, Eq)]
 pub struct Lines {
     pub day_ahead_energy: i64,
     pub balancing: i64,

@@ -107,6 +107,16 @@ module _ (file : List ℕ) (owners : ℕ) (uplift residual : ℕ → ℕ → ℕ
       (operator line ∙ parts_same _ _ _ _ _ _ (own_here owners) x_is y_is line))
       (cases_lt place owners)
 
+-- the header of an accepted file has an hour from 1 to 24
+pub invariant_of-result : goal.invariant_of-result
+invariant_of-result g c =
+    let file = c.args.file.now in
+    let owners = c.args.owners.number in
+    let a = accepted file owners (sym c.in_ok-tallies.ensures.verdict) in
+    let hour = header_hour file owners (a.passes 0 a.some) in
+    let from_is = c.from.ensures in
+    record { from = omega arith; to = omega arith }
+
 pub returns : goal.returns
 returns g c =
     let t = c.in_ok-tallies.ensures in
