@@ -31,12 +31,12 @@ abbrev pub decoded : List ℕ → BlockRecord
 decoded part = record { head = take 4 part; words = words_of 126 (drop 4 part) }
 
 -- A value where there is no fault.
-abbrev pub answered : {X : Type 0} → Verdict FileFault → X → Result X FileFault
+abbrev pub answered : {X E : Type 0} → Verdict E → X → Result X E
 answered (Ok u) x = Ok x
 answered (Err e) x = Err e
 
 -- One thing where there is no fault, another where there is one.
-abbrev pub if_sound : {X : Type 0} → Verdict FileFault → X → X → X
+abbrev pub if_sound : {X E : Type 0} → Verdict E → X → X → X
 if_sound (Ok u) sound faulty = sound
 if_sound (Err e) sound faulty = faulty
 
@@ -50,7 +50,7 @@ LowestOf limits block part verdict =
     (fault : BlockFault) → verdict ≡ Err (Block fault) → DecidesFirst (λ n. slice_index_or (rule_verdicts limits block part) n (Ok tt)) 9 fault
 
 -- What an answer says of faults.
-abbrev pub verdict_in : {X : Type 0} → Result X FileFault → Verdict FileFault
+abbrev pub verdict_in : {X E : Type 0} → Result X E → Verdict E
 verdict_in (Ok x) = Ok tt
 verdict_in (Err e) = Err e
 

@@ -12,9 +12,9 @@ hour_of file = byte_at file 2
 
 -- The lines of an accepted file: each place up to the operator's has its amounts, and the places after it nothing.
 pub record Settles (file : List ℕ) (owners : ℕ) (uplift residual : ℕ → ℕ → ℕ) (hour : HourLines) : Type 0 where
-  pub hour_is : hour.hour ≡ hour_of file
-  pub from : 1 ≤ hour.hour
-  pub to : hour.hour ≤ 24
+  pub hour_is : hour.hour.number ≡ hour_of file
+  pub from : 1 ≤ hour.hour.number
+  pub to : hour.hour.number ≤ 24
   pub exact : (place : ℕ) (line : Line) → place ≤ owners → line_of (slice_index_or hour.places place no_lines) line ≡ amount file owners uplift residual place line
   pub others : (place : ℕ) (line : Line) → owners < place → line_of (slice_index_or hour.places place no_lines) line ≡ pos 0
   pub laws : HourLaws owners (amount file owners uplift residual)

@@ -13,6 +13,7 @@ ghost use Rattle.market.specs.Cents.{nearest_cent};
 ghost use Rattle.pools.specs.Sharing.{Shared, weights};
 
 use crate::hour_lines::HourLines;
+use crate::hour_number::Hour;
 use crate::lines::Lines;
 use crate::owners::Owners;
 use crate::tallies::tallies;
@@ -112,7 +113,9 @@ pub fn settle<U: Basis, R: Basis>(
     let residual_shares = shared(residual_pool, residual, &withdrawn);
     add_parts(&mut places, owners, &uplift_shares, &residual_shares);
     Ok(HourLines {
-        hour: u32::from(file[2]),
+        hour: Hour {
+            number: u32::from(file[2]),
+        },
         places,
     })
 }

@@ -2,12 +2,13 @@
 
 ghost use Rattle.std.specs.Prelude.{◌≡◌, length};
 
+use crate::hour_number::Hour;
 use crate::lines::Lines;
 
 /// The lines of an hour by place: those of the owners, then the operator's, then nothing.
-#[derive(Clone, Copy)]
+#[derive(Clone, Copy, Debug, PartialEq, Eq)]
 pub struct HourLines {
-    pub hour: u32,
+    pub hour: Hour,
     pub places: [Lines; 33],
     ghost whole: { length places ≡ 33 },
 }

@@ -5,6 +5,7 @@
 pub mod file;
 pub mod hour;
 pub mod hour_lines;
+pub mod hour_number;
 pub mod lines;
 pub mod owners;
 mod tallies;

@@ -102,3 +102,10 @@ returns-clause-settles g c =
       others = λ place line h. ap (λ x. line_of x line) (parted.others place h) ∙ o.lines place line ∙ own_other file owners place line (omega arith);
       laws = o.laws (g.U.Basis.weighs c.args.uplift.now) (g.R.Basis.weighs c.args.residual.now) (parts _ _ _ _ _ up) (parts _ _ _ _ _ back);
     }
+
+-- the header of an accepted file has an hour from 1 to 24
+pub invariant_of-result : goal.invariant_of-result
+invariant_of-result g c =
+    let t = c.in_ok-tallies.ensures in
+    let hour = c.from.ensures in
+    record { from = omega (arith, t.from); to = omega (arith, t.to) }
