@@ -96,7 +96,7 @@ fn reading(interval: &Interval) -> u32
     ensures value { result ≡ (interval_of interval.now).reading }
     ensures bound { result ≤ 8400 }
 {
-    interval.reading.kwh
+    interval.reading.value.unsigned_abs()
 }
 
 /// The readings of the hour together.
