@@ -2,6 +2,7 @@ pub mod Faults
 pub mod Firsts
 pub mod Kinds
 pub mod Lone
+pub mod Meanings
 pub mod Records
 pub mod Rules
 pub mod Settings

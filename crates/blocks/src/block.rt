@@ -19,7 +19,7 @@ use crate::word::{put_word, word};
 pub const RECORD_WORDS: usize = 126;
 
 /// A record out of any file: bytes 0 to 3 and words 1 to 126 of its block.
-#[derive(Clone, Copy)]
+#[derive(Clone, Copy, Debug, PartialEq, Eq)]
 pub struct BlockRecord {
     pub head: [u8; 4],
     pub words: [i32; 126],

@@ -6,7 +6,7 @@ ghost use Rattle.std.specs.Prelude.{◌≡◌};
 use market::range::Figure;
 
 /// What a block records.
-#[derive(Clone, Copy)]
+#[derive(Clone, Copy, Debug, PartialEq, Eq)]
 pub enum Kind {
     Header,
     Resource,
@@ -14,7 +14,7 @@ pub enum Kind {
 }
 
 /// The ladder that a schedule may not pass.
-#[derive(Clone, Copy)]
+#[derive(Clone, Copy, Debug, PartialEq, Eq)]
 pub(crate) enum Schedule {
     Energy,
     Reserve,

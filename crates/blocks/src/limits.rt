@@ -5,7 +5,7 @@ ghost use Rattle.std.specs.Prelude.{◌≡◌};
 
 /// The limits of a block: which kinds may stand here, the hours, the number of owners and of following blocks that a header may tell,
 /// and the places (below a number) and position numbers (up to 65,535) that other blocks may have.
-#[derive(Clone, Copy)]
+#[derive(Clone, Copy, Debug, PartialEq, Eq)]
 pub struct Limits {
     pub headers: bool,
     pub positions: bool,

@@ -14,7 +14,7 @@ pub const BLOCK: usize = 512;
 pub const WORDS: usize = 128;
 
 /// A record, by the kind that its first byte names: its 512-byte part of the file, and the number of its block.
-#[derive(Clone, Copy)]
+#[derive(Clone, Copy, Debug, PartialEq, Eq)]
 pub enum Record<'a> {
     Header { part: &'a [u8], block: usize },
     Resource { part: &'a [u8], block: usize },
