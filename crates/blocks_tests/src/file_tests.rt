@@ -1,5 +1,6 @@
-use crate::making::{Told, buffer, header, refused, resource, virtual_position, with};
+use crate::making::{buffer, header, refused, resource, virtual_position, with};
 use blocks::block::BlockRecord;
+use blocks::fault::Refusal;
 use hourfile::file::check_file;
 use std::alloc::Global;
 use std::test::Fail;
@@ -19,14 +20,10 @@ fn file_of(heap: Global, records: &[BlockRecord]) -> Result<Vec<u8>, Fail> {
     Ok(file)
 }
 
-fn says(file: &[u8], owners: u32) -> Told {
-    match check_file(file, owners) {
-        Ok(()) => refused(0, 0, 0),
-        Err(fault) => {
-            let refusal = fault.refusal();
-            refused(refusal.number, refusal.block, refusal.word)
-        }
-    }
+/// Why a file is refused, if it is.
+fn why_refused(file: &[u8], owners: u32) -> Option<Refusal> {
+    let fault = check_file(file, owners).err()?;
+    Some(fault.refusal())
 }
 
 #[test]
@@ -34,8 +31,8 @@ fn two_owners(rt: HostRuntime) -> Result<(), Fail> {
     let first = resource(b'N', 0, 1);
     let second = virtual_position(b'G', 1, 2);
     let file = file_of(rt.alloc(), &[header(1, 2, 2), first, second])?;
-    assert_eq!(rt; says(&file, 2), refused(0, 0, 0));
-    assert_eq!(rt; says(&file, 3), refused(9, 0, 0));
+    assert_eq!(rt; why_refused(&file, 2), None);
+    assert_eq!(rt; why_refused(&file, 3), refused(9, 0, 0));
     Ok(())
 }
 
@@ -43,9 +40,9 @@ fn two_owners(rt: HostRuntime) -> Result<(), Fail> {
 fn wrong_counts(rt: HostRuntime) -> Result<(), Fail> {
     let first = resource(b'N', 0, 1);
     let few = file_of(rt.alloc(), &[header(1, 1, 0), first])?;
-    assert_eq!(rt; says(&few, 1), refused(10, 0, 1));
+    assert_eq!(rt; why_refused(&few, 1), refused(10, 0, 1));
     let many = file_of(rt.alloc(), &[header(1, 1, 2), first])?;
-    assert_eq!(rt; says(&many, 1), refused(10, 0, 1));
+    assert_eq!(rt; why_refused(&many, 1), refused(10, 0, 1));
     Ok(())
 }
 
@@ -53,9 +50,9 @@ fn wrong_counts(rt: HostRuntime) -> Result<(), Fail> {
 fn wrong_kinds(rt: HostRuntime) -> Result<(), Fail> {
     let first = resource(b'N', 0, 1);
     let headless = file_of(rt.alloc(), &[first])?;
-    assert_eq!(rt; says(&headless, 1), refused(7, 0, 0));
+    assert_eq!(rt; why_refused(&headless, 1), refused(7, 0, 0));
     let twice = file_of(rt.alloc(), &[header(1, 1, 1), header(1, 1, 0)])?;
-    assert_eq!(rt; says(&twice, 1), refused(7, 1, 0));
+    assert_eq!(rt; why_refused(&twice, 1), refused(7, 1, 0));
     Ok(())
 }
 
@@ -63,10 +60,10 @@ fn wrong_kinds(rt: HostRuntime) -> Result<(), Fail> {
 fn position_numbers_rise(rt: HostRuntime) -> Result<(), Fail> {
     let first = resource(b'N', 0, 5);
     let same = file_of(rt.alloc(), &[header(1, 1, 2), first, first])?;
-    assert_eq!(rt; says(&same, 1), refused(10, 2, 1));
+    assert_eq!(rt; why_refused(&same, 1), refused(10, 2, 1));
     let next = virtual_position(b'L', 0, 6);
     let rising = file_of(rt.alloc(), &[header(1, 1, 2), first, next])?;
-    assert_eq!(rt; says(&rising, 1), refused(0, 0, 0));
+    assert_eq!(rt; why_refused(&rising, 1), None);
     Ok(())
 }
 
@@ -74,9 +71,9 @@ fn position_numbers_rise(rt: HostRuntime) -> Result<(), Fail> {
 fn hours_and_places(rt: HostRuntime) -> Result<(), Fail> {
     let first = resource(b'N', 0, 1);
     let later = file_of(rt.alloc(), &[header(2, 1, 1), first])?;
-    assert_eq!(rt; says(&later, 1), refused(8, 1, 0));
+    assert_eq!(rt; why_refused(&later, 1), refused(8, 1, 0));
     let past = file_of(rt.alloc(), &[header(1, 1, 1), resource(b'N', 1, 1)])?;
-    assert_eq!(rt; says(&past, 1), refused(9, 1, 0));
+    assert_eq!(rt; why_refused(&past, 1), refused(9, 1, 0));
     Ok(())
 }
 
@@ -84,10 +81,10 @@ fn hours_and_places(rt: HostRuntime) -> Result<(), Fail> {
 fn first_faulty_block_decides(rt: HostRuntime) -> Result<(), Fail> {
     let first = resource(b'N', 0, 1);
     let mut file = file_of(rt.alloc(), &[header(1, 1, 2), first, first])?;
-    assert_eq!(rt; says(&file, 1), refused(10, 2, 1));
+    assert_eq!(rt; why_refused(&file, 1), refused(10, 2, 1));
     assert!(rt; file.len() == 1_536);
     file[600] = 1;
-    assert_eq!(rt; says(&file, 1), refused(6, 1, 127));
+    assert_eq!(rt; why_refused(&file, 1), refused(6, 1, 127));
     Ok(())
 }
 
@@ -95,11 +92,11 @@ fn first_faulty_block_decides(rt: HostRuntime) -> Result<(), Fail> {
 fn lengths(rt: HostRuntime) -> Result<(), Fail> {
     let zeros = vec![in rt.alloc(); 0u8; 33_280]?;
     assert!(rt; zeros.len() == 33_280);
-    assert_eq!(rt; says(&zeros[0..0], 1), refused(5, 0, 0));
-    assert_eq!(rt; says(&zeros[0..511], 1), refused(5, 0, 0));
-    assert_eq!(rt; says(&zeros[0..513], 1), refused(5, 0, 0));
-    assert_eq!(rt; says(&zeros[0..32_768], 1), refused(7, 0, 0));
-    assert_eq!(rt; says(&zeros, 1), refused(5, 0, 0));
+    assert_eq!(rt; why_refused(&zeros[0..0], 1), refused(5, 0, 0));
+    assert_eq!(rt; why_refused(&zeros[0..511], 1), refused(5, 0, 0));
+    assert_eq!(rt; why_refused(&zeros[0..513], 1), refused(5, 0, 0));
+    assert_eq!(rt; why_refused(&zeros[0..32_768], 1), refused(7, 0, 0));
+    assert_eq!(rt; why_refused(&zeros, 1), refused(5, 0, 0));
     Ok(())
 }
 
@@ -107,6 +104,6 @@ fn lengths(rt: HostRuntime) -> Result<(), Fail> {
 fn a_figure_of_a_later_block(rt: HostRuntime) -> Result<(), Fail> {
     let figure = with(header(1, 1, 0), 14, 200_000);
     let file = file_of(rt.alloc(), &[figure])?;
-    assert_eq!(rt; says(&file, 1), refused(0, 0, 0));
+    assert_eq!(rt; why_refused(&file, 1), None);
     Ok(())
 }

@@ -1,54 +1,31 @@
-// Records for the tests, and what is said of them.
+// Records for the tests, and the refusals that are expected of them.
 use blocks::block::BlockRecord;
+use blocks::fault::{Layer, Refusal};
+
+fn record(head: [u8; 4], first_word: i32) -> BlockRecord {
+    let words = [0; 126];
+    with(BlockRecord { head, words }, 1, first_word)
+}
 
 pub(crate) fn header(hour: u8, owners: u8, following: i32) -> BlockRecord {
-    let words = no_words();
-    with(
-        BlockRecord {
-            head: [b'H', 0, hour, owners],
-            words,
-        },
-        1,
-        following,
-    )
+    record([b'H', 0, hour, owners], following)
 }
 
 pub(crate) fn resource(side: u8, place: u8, number: i32) -> BlockRecord {
-    let words = no_words();
-    with(
-        BlockRecord {
-            head: [b'R', side, 1, place],
-            words,
-        },
-        1,
-        number,
-    )
+    record([b'R', side, 1, place], number)
 }
 
 pub(crate) fn virtual_position(side: u8, place: u8, number: i32) -> BlockRecord {
-    let words = no_words();
-    with(
-        BlockRecord {
-            head: [b'V', side, 1, place],
-            words,
-        },
-        1,
-        number,
-    )
-}
-
-fn no_words() -> [i32; 126] {
-    [0; 126]
+    record([b'V', side, 1, place], number)
 }
 
 /// The record with one word, of words 1 to 126, at another value.
-pub(crate) fn with(record: BlockRecord, word: usize, value: i32) -> BlockRecord {
-    let head = record.head;
-    let mut words = record.words;
-    if word >= 1 && word <= 126 {
-        words[word - 1] = value;
+pub(crate) fn with(mut record: BlockRecord, word: usize, value: i32) -> BlockRecord {
+    let at = word.wrapping_sub(1);
+    if let Some(held) = record.words.get_mut(at) {
+        *held = value;
     }
-    BlockRecord { head, words }
+    record
 }
 
 /// The record with one energy row more, of those that stand from word 68 on.
@@ -65,18 +42,17 @@ pub(crate) fn buffer() -> [u8; 512] {
     [0; 512]
 }
 
-/// The number, block and word of a refusal; all 0 where there is none.
-#[derive(Clone, Copy, Debug, PartialEq)]
-pub(crate) struct Told {
-    pub number: u32,
-    pub block: usize,
-    pub word: usize,
-}
-
-pub(crate) fn refused(number: u32, block: usize, word: usize) -> Told {
-    Told {
+/// The refusal of a file's or a block's number, at a block and a word.
+pub(crate) fn refused(number: u32, block: usize, word: usize) -> Option<Refusal> {
+    let layer = if number == 5 {
+        Layer::File
+    } else {
+        Layer::Block
+    };
+    Some(Refusal {
         number,
+        layer,
         block,
         word,
-    }
+    })
 }

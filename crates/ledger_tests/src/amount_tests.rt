@@ -3,7 +3,7 @@ use crate::making::{
     with_words,
 };
 use crate::nobody::Nobody;
-use crate::telling::{check_amounts, check_entries, list_of, settled, unused};
+use crate::telling::{check_amounts, check_entries, settled, unused};
 use blocks::block::BlockRecord;
 use ledger::day::OpenDay;
 use ledger::entry::Entry;
@@ -78,9 +78,7 @@ fn operator_takes_pools_that_nobody_weighs_for(rt: HostRuntime) -> Result<(), Fa
 // Fixed shares of 5,000, 10,000 (capped), 1 and 0.
 fn fixed_shares() -> FixedShares {
     let mut shares = [0; 32];
-    shares[0] = 5_000;
-    shares[1] = 20_000;
-    shares[2] = 1;
+    shares[..3].copy_from_slice(&[5_000, 20_000, 1]);
     FixedShares { shares }
 }
 
@@ -134,7 +132,7 @@ fn check_balance(rt: &impl Abort, ledger: &[Entry]) {
     let mut residual = 0i64;
     let mut uplift = 0i64;
     for entry in ledger {
-        let [first, second, third, fourth, fifth, sixth, seventh, eighth] = list_of(entry.lines);
+        let [first, second, third, fourth, fifth, sixth, seventh, eighth] = entry.lines.into();
         for amount in [first, second, third, eighth] {
             residual = residual.wrapping_add(amount);
         }

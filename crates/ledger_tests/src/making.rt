@@ -3,53 +3,42 @@ use blocks::block::BlockRecord;
 use std::alloc::Global;
 use std::test::Fail;
 
-fn no_words() -> [i32; 126] {
-    [0; 126]
-}
-
-fn record(head: [u8; 4]) -> BlockRecord {
-    let words = no_words();
-    BlockRecord { head, words }
+fn record(head: [u8; 4], number: i32) -> BlockRecord {
+    let words = [0; 126];
+    with(BlockRecord { head, words }, 1, number)
 }
 
 pub(crate) fn header(hour: u8, owners: u8, following: i32) -> BlockRecord {
-    with(record([b'H', 0, hour, owners]), 1, following)
+    record([b'H', 0, hour, owners], following)
 }
 
 pub(crate) fn resource(side: u8, hour: u8, place: u8, number: i32) -> BlockRecord {
-    with(record([b'R', side, hour, place]), 1, number)
+    record([b'R', side, hour, place], number)
 }
 
 pub(crate) fn virtual_position(side: u8, hour: u8, place: u8, number: i32) -> BlockRecord {
-    with(record([b'V', side, hour, place]), 1, number)
+    record([b'V', side, hour, place], number)
 }
 
-/// The record with one word, of words 1 to 126, at another value.
+/// The record with some words, from one on, of words 1 to 126, at other values.
+pub(crate) fn with_words(mut record: BlockRecord, first: usize, values: &[i32]) -> BlockRecord {
+    let from = first.saturating_sub(1);
+    for (word, value) in record.words.iter_mut().skip(from).zip(values) {
+        *word = *value;
+    }
+    record
+}
+
+/// The record with one word at another value.
 pub(crate) fn with(record: BlockRecord, word: usize, value: i32) -> BlockRecord {
-    let head = record.head;
-    let mut words = record.words;
-    if word >= 1 && word <= 126 {
-        words[word - 1] = value;
-    }
-    BlockRecord { head, words }
-}
-
-/// The record with some words, from one word on, at other values.
-pub(crate) fn with_words(record: BlockRecord, first: usize, values: &[i32]) -> BlockRecord {
-    let mut changed = record;
-    for (i, value) in values.iter().enumerate() {
-        changed = with(changed, first.saturating_add(i), *value);
-    }
-    changed
+    with_words(record, word, &[value])
 }
 
 /// The record with the same price, schedule, reading, reserve price and reserve schedule in every interval.
 pub(crate) fn with_intervals(record: BlockRecord, figures: [i32; 5]) -> BlockRecord {
-    let mut changed = record;
-    for t in 0..12 {
-        changed = with_words(changed, 8 + 5 * t, &figures);
-    }
-    changed
+    (8..68)
+        .step_by(5)
+        .fold(record, |record, first| with_words(record, first, &figures))
 }
 
 /// A load without bids, with one price and one reading in every interval.

@@ -1,7 +1,8 @@
 use crate::making::{file_of, header, load, two_owners};
 use crate::telling::{
-    Told, check_same, check_settles, entry, refusal_of, refused, refused_by, settled, unused,
+    check_settles, entry, refusal_of, refused, refused_by, settled, unused,
 };
+use blocks::fault::Refusal;
 use ledger::day::OpenDay;
 use ledger::entry::Entry;
 use std::process::Abort;
@@ -13,12 +14,12 @@ fn check_refused<const N: usize>(
     day: &mut OpenDay,
     ledger: &mut [Entry; N],
     file: &[u8],
-    why: Told,
+    why: Option<Refusal>,
 ) {
     let before = *ledger;
     let state = day.state();
     assert_eq!(rt; refusal_of(day.settle_plain(ledger, file)), why);
-    check_same(rt, ledger, &before);
+    assert_eq!(rt; *ledger, before);
     assert_eq!(rt; day.state(), state);
 }
 
@@ -97,8 +98,8 @@ fn ledger_of_another_length(rt: HostRuntime) -> Result<(), Fail> {
 /// Lines with one amount, on a line that is counted from 0.
 fn on_line(line: usize, amount: i64) -> [i64; 8] {
     let mut lines = [0; 8];
-    if line < 8 {
-        lines[line] = amount;
+    if let Some(held) = lines.get_mut(line) {
+        *held = amount;
     }
     lines
 }

@@ -1,7 +1,8 @@
 // The profits below were worked out apart from the library, by counting each twelfth of a kWh on its own.
-use ladders::bid::Bid;
+use ladders::bid::{Bid, BidKind};
 use ladders::ladder::{Ladder, economic_point, lost_profit, profit};
-use ladders::offer::{Offer, ReserveOffer};
+use ladders::offer::{Offer, OfferKind, ReserveKind, ReserveOffer};
+use ladders::row_ladder::{RowKind, RowLadder};
 use ladders::rows::{LadderFault, Row};
 use std::process::Abort;
 use std::test::Fail;
@@ -106,44 +107,37 @@ fn no_rows_earn_nothing(rt: HostRuntime) -> Result<(), Fail> {
     Ok(())
 }
 
-fn offer_fault(rows: &[Row]) -> Option<LadderFault> {
-    Offer::new(rows).err()
-}
-
-fn bid_fault(rows: &[Row]) -> Option<LadderFault> {
-    Bid::new(rows).err()
-}
-
-fn reserve_fault(rows: &[Row]) -> Option<LadderFault> {
-    ReserveOffer::new(rows).err()
+/// Why rows make no ladder of a kind, if they make none.
+fn fault<K: RowKind>(rows: &[Row]) -> Option<LadderFault> {
+    RowLadder::<K>::new(rows).err()
 }
 
 #[test]
 fn first_bad_row_of_an_offer(rt: HostRuntime) {
-    assert_eq!(rt; offer_fault(&[step(0, 0)]), Some(LadderFault::BadRow(0)));
-    assert_eq!(rt; offer_fault(&[step(0, -1)]), Some(LadderFault::BadRow(0)));
+    assert_eq!(rt; fault::<OfferKind>(&[step(0, 0)]), Some(LadderFault::BadRow(0)));
+    assert_eq!(rt; fault::<OfferKind>(&[step(0, -1)]), Some(LadderFault::BadRow(0)));
     assert_eq!(rt;
-        offer_fault(&[step(0, 1), step(0, 1)]),
+        fault::<OfferKind>(&[step(0, 1), step(0, 1)]),
         Some(LadderFault::BadRow(1))
     );
     assert_eq!(rt;
-        offer_fault(&[step(5, 1), step(4, 2), step(3, 3)]),
+        fault::<OfferKind>(&[step(5, 1), step(4, 2), step(3, 3)]),
         Some(LadderFault::BadRow(1))
     );
     assert_eq!(rt;
-        offer_fault(&[step(5, 1), step(6, 1_001), step(3, 3)]),
+        fault::<OfferKind>(&[step(5, 1), step(6, 1_001), step(3, 3)]),
         Some(LadderFault::BadRow(1))
     );
     assert_eq!(rt;
-        offer_fault(&[step(200_001, 1)]),
+        fault::<OfferKind>(&[step(200_001, 1)]),
         Some(LadderFault::BadRow(0))
     );
     assert_eq!(rt;
-        offer_fault(&[step(-200_001, 1)]),
+        fault::<OfferKind>(&[step(-200_001, 1)]),
         Some(LadderFault::BadRow(0))
     );
     assert_eq!(rt;
-        offer_fault(&[step(-200_000, 1), step(200_000, 1_000)]),
+        fault::<OfferKind>(&[step(-200_000, 1), step(200_000, 1_000)]),
         None
     );
 }
@@ -151,14 +145,14 @@ fn first_bad_row_of_an_offer(rt: HostRuntime) {
 #[test]
 fn first_bad_row_of_a_bid(rt: HostRuntime) {
     assert_eq!(rt;
-        bid_fault(&[step(4, 1), step(5, 2)]),
+        fault::<BidKind>(&[step(4, 1), step(5, 2)]),
         Some(LadderFault::BadRow(1))
     );
     assert_eq!(rt;
-        bid_fault(&[step(5, 2), step(5, 3), step(4, 3)]),
+        fault::<BidKind>(&[step(5, 2), step(5, 3), step(4, 3)]),
         Some(LadderFault::BadRow(2))
     );
-    assert_eq!(rt; bid_fault(&[step(200_000, 1), step(-200_000, 1_000)]), None);
+    assert_eq!(rt; fault::<BidKind>(&[step(200_000, 1), step(-200_000, 1_000)]), None);
 }
 
 #[test]
@@ -171,20 +165,18 @@ fn reserve_has_few_rows_and_no_price_below_0(rt: HostRuntime) {
         step(0, 5),
         step(0, 6),
     ];
-    assert_eq!(rt; reserve_fault(&rows), Some(LadderFault::TooManyRows));
-    assert_eq!(rt; reserve_fault(&rows[0..5]), None);
-    assert_eq!(rt; reserve_fault(&[step(-1, 1)]), Some(LadderFault::BadRow(0)));
+    assert_eq!(rt; fault::<ReserveKind>(&rows), Some(LadderFault::TooManyRows));
+    assert_eq!(rt; fault::<ReserveKind>(&rows[0..5]), None);
+    assert_eq!(rt; fault::<ReserveKind>(&[step(-1, 1)]), Some(LadderFault::BadRow(0)));
 }
 
 #[test]
 fn twenty_rows_pass(rt: HostRuntime) {
     let mut rows = [step(7, 1); 21];
-    let mut end = 0i32;
-    for row in rows.iter_mut() {
-        end = end.saturating_add(1);
+    for (row, end) in rows.iter_mut().zip(1..22) {
         *row = step(7, end);
     }
-    assert_eq!(rt; offer_fault(&rows[0..20]), None);
-    assert_eq!(rt; offer_fault(&rows), Some(LadderFault::TooManyRows));
-    assert_eq!(rt; bid_fault(&rows), Some(LadderFault::TooManyRows));
+    assert_eq!(rt; fault::<OfferKind>(&rows[0..20]), None);
+    assert_eq!(rt; fault::<OfferKind>(&rows), Some(LadderFault::TooManyRows));
+    assert_eq!(rt; fault::<BidKind>(&rows), Some(LadderFault::TooManyRows));
 }

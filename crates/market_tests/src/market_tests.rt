@@ -166,7 +166,7 @@ fn figures_out_of_range(rt: HostRuntime) -> Result<(), Fail> {
         refused(Figure::Quantity, 1_001)
     );
     assert_eq!(rt; Reading::new(8_401).err(), refused(Figure::Reading, 8_401));
-    assert_eq!(rt; Reading::new(8_400)?.kwh, 8_400);
-    assert_eq!(rt; Price::new(-200_000)?.cents, -200_000);
+    assert_eq!(rt; Reading::new(8_400)?.value, 8_400);
+    assert_eq!(rt; Price::new(-200_000)?.value, -200_000);
     Ok(())
 }

@@ -11,7 +11,7 @@ use ledger::entry::Entry;
 use ledger::fault::DayFault;
 use std::alloc::{AllocError, Global};
 use std::io::Read;
-use std::{fmt, io};
+use std::io;
 
 // One block, which every file has.
 const SHORTEST: usize = 512;
@@ -21,28 +21,6 @@ const LONGEST: usize = 32_768;
 
 // One byte more than the longest file, so that a longer input is told from it and is not read to its end.
 const READ_AT_MOST: u64 = 32_769;
-
-// The eight lines of a place, in the order of their numbers.
-#[derive(Drop)]
-struct Printed(Lines);
-
-impl fmt::Display for Printed {
-    fn fmt<W: fmt::Write>(&self, f: &mut fmt::Formatter<W>) -> fmt::Result {
-        let lines = self.0;
-        write!(
-            f,
-            "{} {} {} {} {} {} {} {}",
-            lines.day_ahead_energy,
-            lines.balancing,
-            lines.virtual_trade,
-            lines.reserve,
-            lines.day_ahead_make_whole,
-            lines.real_time_make_whole,
-            lines.uplift,
-            lines.residual
-        )
-    }
-}
 
 fn read_input(rt: &HostRuntime) -> io::Result<Vec<u8>> {
     let mut file = Vec::new(rt.alloc());
@@ -87,10 +65,10 @@ fn tell_sheet(rt: &impl Print, ledger: &[Entry], entries: usize) -> io::Result<(
     println!(rt; "hour {hour} entries {entries}")?;
     for entry in owners {
         let place = entry.place;
-        let lines = Printed(entry.lines);
+        let lines = entry.lines;
         println!(rt; "{place} {lines}")?;
     }
-    let lines = Printed(operator.lines);
+    let lines = operator.lines;
     println!(rt; "operator {lines}")
 }
 

@@ -1,47 +1,39 @@
 // The blocks of one hour: written, read back, checked as a file, and refused once one of them is damaged.
+use crate::stop::Stop;
 use blocks::block::{BlockRecord, open};
-use blocks::fault::{FileFault, Rule};
 use blocks::limits::Limits;
 use blocks::record::BLOCK;
 use hourfile::file::check_file;
 use market::amounts::day_ahead_energy;
 use market::cents::to_cents;
 use records::position;
-use std::io;
 
 const OWNERS: u32 = 2;
 
 // Three blocks.
 const FILE: usize = 1_536;
 
-fn no_words() -> [i32; 126] {
-    [0; 126]
-}
+// The first reading of the generator: byte 40 of block 1.
+const FIRST_READING: usize = 552;
 
-fn empty_file() -> [u8; FILE] {
-    [0; FILE]
-}
-
-// Sets one of words 1 to 126.
-fn set(words: &mut [i32; 126], word: usize, value: i32) {
-    if word >= 1 && word <= 126 {
-        words[word - 1] = value;
+// Sets the words of a record from one on, of words 1 to 126.
+fn set(words: &mut [i32; 126], first: usize, values: &[i32]) {
+    for (word, value) in words.iter_mut().skip(first.saturating_sub(1)).zip(values) {
+        *word = *value;
     }
 }
 
-// Sets the price, schedule and reading of every interval.
-fn set_intervals(words: &mut [i32; 126], price: i32, schedule: i32, reading: i32) {
-    for t in 0..12 {
-        set(words, 8 + 5 * t, price);
-        set(words, 9 + 5 * t, schedule);
-        set(words, 10 + 5 * t, reading);
+// Sets the price, schedule and reading of every interval: five words each, from word 8 on.
+fn set_intervals(words: &mut [i32; 126], figures: [i32; 3]) {
+    for first in (8..68).step_by(5) {
+        set(words, first, &figures);
     }
 }
 
 // Hour 1 of two owners, with two blocks after the header.
 fn header() -> BlockRecord {
-    let mut words = no_words();
-    set(&mut words, 1, 2);
+    let mut words = [0; 126];
+    set(&mut words, 1, &[2]);
     BlockRecord {
         head: [b'H', 0, 1, 2],
         words,
@@ -50,16 +42,11 @@ fn header() -> BlockRecord {
 
 // The generator of the first owner: an offer of 3,000 to 400 and 5,000 to 600, day-ahead price 4,000 and quantity 500.
 fn generator() -> BlockRecord {
-    let mut words = no_words();
-    set(&mut words, 1, 1);
-    set(&mut words, 2, 4_000);
-    set(&mut words, 3, 500);
-    set(&mut words, 6, 2);
-    set_intervals(&mut words, 4_200, 500, 4_200);
-    set(&mut words, 68, 3_000);
-    set(&mut words, 69, 400);
-    set(&mut words, 70, 5_000);
-    set(&mut words, 71, 600);
+    let mut words = [0; 126];
+    set(&mut words, 1, &[1, 4_000, 500]);
+    set(&mut words, 6, &[2]);
+    set_intervals(&mut words, [4_200, 500, 4_200]);
+    set(&mut words, 68, &[3_000, 400, 5_000, 600]);
     BlockRecord {
         head: [b'R', b'G', 1, 0],
         words,
@@ -68,48 +55,12 @@ fn generator() -> BlockRecord {
 
 // The load without bids of the second owner.
 fn load() -> BlockRecord {
-    let mut words = no_words();
-    set(&mut words, 1, 2);
-    set_intervals(&mut words, 4_200, 0, 4_100);
+    let mut words = [0; 126];
+    set(&mut words, 1, &[2]);
+    set_intervals(&mut words, [4_200, 0, 4_100]);
     BlockRecord {
         head: [b'R', b'N', 1, 1],
         words,
-    }
-}
-
-// What a rule asks, in words.
-fn meaning(rule: Rule) -> &'static str {
-    match rule {
-        Rule::Check => "the check is wrong",
-        Rule::Kind => "byte 0 or 1 is not allowed here",
-        Rule::Hour => "the hour is wrong",
-        Rule::Place => "the number of owners or the place is wrong",
-        Rule::Number => "the number of blocks or the position number is wrong",
-        Rule::Range => "a figure is out of its range",
-        Rule::Rows => "a row count or a row is wrong",
-        Rule::Schedule => "a schedule passes the last end of its ladder",
-        Rule::Unused => "an unused word is not 0",
-    }
-}
-
-fn tell_fault(rt: &impl Print, fault: FileFault) -> io::Result<()> {
-    let refusal = fault.refusal();
-    let number = refusal.number;
-    match fault {
-        FileFault::Length => println!(rt; "refused by number {number}: a wrong length"),
-        FileFault::Block(fault) => {
-            let block = fault.block;
-            let word = fault.word;
-            let meaning = meaning(fault.rule);
-            println!(rt; "refused by number {number} at block {block}, word {word}: {meaning}")
-        }
-    }
-}
-
-fn tell_verdict(rt: &impl Print, file: &[u8]) -> io::Result<()> {
-    match check_file(file, OWNERS) {
-        Ok(()) => println!(rt; "the file is accepted for a day of {OWNERS} owners"),
-        Err(fault) => tell_fault(rt, fault),
     }
 }
 
@@ -117,58 +68,51 @@ fn tell_verdict(rt: &impl Print, file: &[u8]) -> io::Result<()> {
 fn tell_block(
     rt: &impl Print,
     record: &BlockRecord,
-    file: &mut [u8],
-    block: usize,
     name: &str,
-) -> io::Result<()> {
-    if block > 2 || file.len() != FILE {
-        return println!(rt; "the file has no block {block}");
-    }
-    let start = block * BLOCK;
-    match record.write(&mut file[start..start + BLOCK]) {
-        Ok(bytes) => println!(rt; "wrote {name}: {bytes} bytes")?,
-        Err(fault) => return tell_fault(rt, fault),
-    }
-    match BlockRecord::read(&file[start..start + BLOCK]) {
-        Ok(back) => {
-            let number = back.words[0];
-            println!(rt; "read it back: word 1 is {number}")
-        }
-        Err(fault) => tell_fault(rt, fault),
-    }
+    part: &mut [u8],
+) -> Result<(), Stop> {
+    let bytes = record.write(part)?;
+    println!(rt; "wrote {name}: {bytes} bytes")?;
+    let [number, ..] = BlockRecord::read(part)?.words;
+    println!(rt; "read it back: word 1 is {number}")?;
+    Ok(())
+}
+
+fn tell_verdict(rt: &impl Print, file: &[u8]) -> Result<(), Stop> {
+    check_file(file, OWNERS)?;
+    println!(rt; "the file is accepted for a day of {OWNERS} owners")?;
+    Ok(())
 }
 
 // What the block of the generator means: its position, and the first line of it.
-fn tell_position(rt: &impl Print, part: &[u8]) -> io::Result<()> {
-    let record = match open(part, 1, &Limits::alone()) {
-        Ok(record) => record,
-        Err(fault) => return tell_fault(rt, fault),
-    };
+fn tell_position(rt: &impl Print, part: &[u8]) -> Result<(), Stop> {
+    let record = open(part, 1, &Limits::alone())?;
     match position(&record) {
         Some(generator) => {
             let cents = to_cents(day_ahead_energy(&generator));
-            println!(rt; "block 1 holds a position, with {cents} cents of day-ahead energy")
+            println!(rt; "block 1 holds a position, with {cents} cents of day-ahead energy")?;
         }
-        None => println!(rt; "block 1 holds no position"),
+        None => println!(rt; "block 1 holds no position")?,
     }
+    Ok(())
 }
 
-fn tell_file(rt: &impl Print, file: &mut [u8]) -> io::Result<()> {
-    tell_block(rt, &header(), file, 0, "the header")?;
-    tell_block(rt, &generator(), file, 1, "the generator")?;
-    tell_block(rt, &load(), file, 2, "the load without bids")?;
+fn tell_file(rt: &impl Print, file: &mut [u8; FILE]) -> Result<(), Stop> {
+    let blocks = [
+        (header(), "the header"),
+        (generator(), "the generator"),
+        (load(), "the load without bids"),
+    ];
+    for ((record, name), part) in blocks.iter().zip(file.chunks_exact_mut(BLOCK)) {
+        tell_block(rt, record, name, part)?;
+    }
     tell_verdict(rt, file)?;
-    if file.len() == FILE {
-        tell_position(rt, &file[512..1_024])?;
-    }
+    tell_position(rt, &file[BLOCK..2 * BLOCK])?;
     println!(rt; "byte 40 of block 1, in its first reading, is set to 0")?;
-    if file.len() > 552 {
-        file[552] = 0;
-    }
+    file[FIRST_READING] = 0;
     tell_verdict(rt, file)
 }
 
-pub(crate) fn tell_hour(rt: &impl Print) -> io::Result<()> {
-    let mut file = empty_file();
-    tell_file(rt, &mut file)
+pub(crate) fn tell_hour(rt: &impl Print) -> Result<(), Stop> {
+    tell_file(rt, &mut [0; FILE])
 }

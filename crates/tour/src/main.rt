@@ -2,11 +2,12 @@
 #![tactic(auto)]
 
 mod hour;
+mod stop;
 
 use hour::tell_hour;
 use ladders::ladder::{economic_point, profit};
 use ladders::offer::{Offer, ReserveOffer};
-use ladders::rows::{LadderFault, Row};
+use ladders::rows::Row;
 use market::amounts::{
     balancing, day_ahead_energy, day_ahead_make_whole, real_time_make_whole, reserve, virtual_trade,
 };
@@ -15,32 +16,14 @@ use market::figures::{Price, Quantity, Reading, ReservePrice};
 use market::position::{
     Interval, Position, ReserveClass, ReserveInterval, VirtualPosition, ZonePrices,
 };
-use market::range::OutOfRange;
 use market::side::Side;
 use market::trade::Trade;
 use pools::basis::{Basis, Exemption, FixedShares, Withdrawn};
 use pools::pool::{Pool, share};
 use pools::withdrawals::Withdrawals;
 use std::io;
+use stop::{Stop, tell_stop};
 use worked::examples;
-
-#[derive(Clone, Copy)]
-enum Refusal {
-    Figure(OutOfRange),
-    Ladder(LadderFault),
-}
-
-impl From<OutOfRange> for Refusal {
-    fn from(fault: OutOfRange) -> Refusal {
-        Refusal::Figure(fault)
-    }
-}
-
-impl From<LadderFault> for Refusal {
-    fn from(fault: LadderFault) -> Refusal {
-        Refusal::Ladder(fault)
-    }
-}
 
 const DAY_AHEAD_PRICE: i32 = 4_000;
 
@@ -62,7 +45,7 @@ const ROWS: [Row; 2] = [
 ];
 
 // A class of reserve with nothing in it.
-fn no_reserve() -> Result<ReserveClass, Refusal> {
+fn no_reserve() -> Result<ReserveClass, Stop> {
     let price = ReservePrice::new(0)?;
     let quantity = Quantity::new(0)?;
     let offer = ReserveOffer::new(&[])?;
@@ -79,7 +62,7 @@ fn no_reserve() -> Result<ReserveClass, Refusal> {
 }
 
 // The generator of the tour, with the same figures in every interval.
-fn generator(offer: Offer) -> Result<Position, Refusal> {
+fn generator(offer: Offer) -> Result<Position, Stop> {
     let price = Price::new(DAY_AHEAD_PRICE)?;
     let quantity = Quantity::new(SCHEDULE)?;
     let interval = Interval {
@@ -97,7 +80,7 @@ fn generator(offer: Offer) -> Result<Position, Refusal> {
     })
 }
 
-fn no_virtual_trade() -> Result<i64, Refusal> {
+fn no_virtual_trade() -> Result<i64, Stop> {
     let price = Price::new(0)?;
     let zone = ZonePrices {
         day_ahead: price,
@@ -134,22 +117,18 @@ fn tell_line(rt: &impl Print, number: u32, name: &str, grains: i64) -> io::Resul
 }
 
 fn tell_lines(rt: &impl Print, position: &Position, virtual_grains: i64) -> io::Result<()> {
-    tell_line(rt, 1, "day-ahead energy", day_ahead_energy(position))?;
-    tell_line(rt, 2, "balancing", balancing(position))?;
-    tell_line(rt, 3, "virtual", virtual_grains)?;
-    tell_line(rt, 4, "reserve", reserve(&position.reserve))?;
-    tell_line(
-        rt,
-        5,
-        "day-ahead make-whole",
-        day_ahead_make_whole(position),
-    )?;
-    tell_line(
-        rt,
-        6,
-        "real-time make-whole",
-        real_time_make_whole(position),
-    )
+    let lines = [
+        ("day-ahead energy", day_ahead_energy(position)),
+        ("balancing", balancing(position)),
+        ("virtual", virtual_grains),
+        ("reserve", reserve(&position.reserve)),
+        ("day-ahead make-whole", day_ahead_make_whole(position)),
+        ("real-time make-whole", real_time_make_whole(position)),
+    ];
+    for (number, (name, grains)) in (1..7).zip(lines) {
+        tell_line(rt, number, name, grains)?;
+    }
+    Ok(())
 }
 
 // The position's part in the uplift pool, in cents: its reserve and make-whole lines.
@@ -162,9 +141,7 @@ fn uplift(position: &Position) -> i64 {
 // Three owners, who withdrew 49,200, 24,600 and 100 kWh.
 fn withdrawals() -> Withdrawals {
     let mut quantities = [0; 32];
-    quantities[0] = 49_200;
-    quantities[1] = 24_600;
-    quantities[2] = 100;
+    quantities[..3].copy_from_slice(&[49_200, 24_600, 100]);
     Withdrawals {
         quantities,
         owners: 3,
@@ -196,9 +173,7 @@ fn tell_uplift(rt: &impl Print, position: &Position) -> io::Result<()> {
     )?;
     tell_shares(rt, amount, &Withdrawn, "withdrawn quantity")?;
     let mut shares = [0; 32];
-    shares[0] = 1;
-    shares[1] = 1;
-    shares[2] = 1;
+    shares[..3].fill(1);
     tell_shares(
         rt,
         amount,
@@ -219,49 +194,45 @@ fn tell_uplift(rt: &impl Print, position: &Position) -> io::Result<()> {
     )
 }
 
-fn tell_refusal(rt: &impl Print, refusal: Refusal) -> io::Result<()> {
-    match refusal {
-        Refusal::Figure(fault) => println!(rt; "refused: {fault}"),
-        Refusal::Ladder(fault) => println!(rt; "refused: {fault}"),
-    }
-}
-
-fn settle(rt: &impl Print) -> io::Result<()> {
+fn settle(rt: &impl Print) -> Result<(), Stop> {
     println!(rt; "a generator offers 3000 cents per MWh to 400 tenths of a MW and 5000 to 600")?;
-    let offer = match Offer::new(&ROWS) {
-        Ok(offer) => offer,
-        Err(fault) => return tell_refusal(rt, Refusal::Ladder(fault)),
-    };
+    let offer = Offer::new(&ROWS)?;
     tell_profits(rt, &offer)?;
-    let position = match generator(offer) {
-        Ok(position) => position,
-        Err(refusal) => return tell_refusal(rt, refusal),
-    };
-    match no_virtual_trade() {
-        Ok(virtual_grains) => tell_lines(rt, &position, virtual_grains)?,
-        Err(refusal) => return tell_refusal(rt, refusal),
-    }
-    tell_uplift(rt, &position)
-}
-
-// What is refused: rows that are out of step, and a reading that no meter can give.
-fn tell_bad_input(rt: &impl Print) -> io::Result<()> {
-    let [first, second] = ROWS;
-    println!(rt; "the same rows in the other order make no offer")?;
-    if let Err(fault) = Offer::new(&[second, first]) {
-        tell_refusal(rt, Refusal::Ladder(fault))?;
-    }
-    println!(rt; "a reading of 8401 kWh is no reading of one interval")?;
-    if let Err(fault) = Reading::new(8_401) {
-        tell_refusal(rt, Refusal::Figure(fault))?;
-    }
+    let position = generator(offer)?;
+    let virtual_grains = no_virtual_trade()?;
+    tell_lines(rt, &position, virtual_grains)?;
+    tell_uplift(rt, &position)?;
     Ok(())
 }
 
+// Rows that are out of step make no offer.
+fn rows_turned_round(rt: &impl Print) -> Result<(), Stop> {
+    let [first, second] = ROWS;
+    println!(rt; "the same rows in the other order make no offer")?;
+    Offer::new(&[second, first])?;
+    Ok(())
+}
+
+// No meter gives such a reading.
+fn reading_too_high(rt: &impl Print) -> Result<(), Stop> {
+    println!(rt; "a reading of 8401 kWh is no reading of one interval")?;
+    Reading::new(8_401)?;
+    Ok(())
+}
+
+// A step that ends early has told what it refuses, and the tour goes on.
+fn tell_end(rt: &impl Print, step: Result<(), Stop>) -> io::Result<()> {
+    match step {
+        Ok(()) => Ok(()),
+        Err(stop) => tell_stop(rt, stop),
+    }
+}
+
 fn main(rt: HostRuntime) -> io::Result<()> {
-    settle(&rt)?;
-    tell_bad_input(&rt)?;
-    tell_hour(&rt)?;
+    tell_end(&rt, settle(&rt))?;
+    tell_end(&rt, rows_turned_round(&rt))?;
+    tell_end(&rt, reading_too_high(&rt))?;
+    tell_end(&rt, tell_hour(&rt))?;
     let count = examples();
     println!(rt; "worked examples that are proved of the definitions: {count}")
 }
