@@ -1,6 +1,6 @@
 //! Ladders that are made of rows, of one kind each.
 
-ghost use Rattle.std.specs.Prelude.{◌≡◌, ◌<◌, ◌≤◌, length, unsigned_abs, IfSome, MatchOption};
+ghost use Rattle.std.specs.Prelude.{◌≡◌, ◌<◌, ◌≤◌, length, unsigned_abs, ⊤, IfSome, MatchOption};
 ghost use Rattle.ladders.specs.Rows.{AllGood, Made, most_rows, row_at, row_ladder};
 ghost use Rattle.ladders.specs.RowLists.{listed};
 ghost use Rattle.ladders.specs.Lawfuls.{row_lawful};
@@ -28,7 +28,12 @@ pub struct RowLadder<K: RowKind> {
     ghost good: { AllGood K.KIND (listed list) },
 }
 
+// By hand, since a derived `Clone` is refused beside a ghost field.
 impl<K: RowKind> Clone for RowLadder<K> {
+    ghost is_clone = { λ ladder copy. copy ≡ ladder };
+
+    ghost is_infallible = { λ _. ⊤ };
+
     fn clone(&self) -> Result<Self, AllocError> {
         Ok(*self)
     }
