@@ -1,8 +1,7 @@
 //! The six lines of a position, in grains.
 
 ghost use Rattle.std.specs.Prelude.{◌≡◌, ◌≤◌, pos, ◌≤ℤ◌, unsigned_abs};
-ghost use Rattle.market.specs.Amounts.{day_ahead_energy, day_ahead_make_whole, energy_payment, imbalance, real_time_make_whole, reserve_change, reserve_payment, spread, virtual_trade};
-ghost use Rattle.market.specs.Amounts.{balancing as balanced, reserve as reserve_line, reserve_loss};
+ghost use Rattle.market.specs.Amounts.{balancing, day_ahead_energy, day_ahead_make_whole, energy_payment, imbalance, real_time_make_whole, reserve, reserve_change, reserve_loss, reserve_payment, spread, virtual_trade};
 ghost use Rattle.market.specs.Views.{interval_of, position_of, reserve_class_of, reserve_interval_of, size_of, virtual_position_of, zone_prices_of};
 
 use crate::figures::{Price, Quantity};
@@ -31,7 +30,7 @@ fn imbalance(quantity: Quantity, interval: &Interval) -> i64
 
 /// Line 2, balancing: what the readings earn beyond the day-ahead quantity.
 pub fn balancing(position: &Position) -> i64
-    ensures value { result ≡ balanced (position_of position.now) }
+    ensures value { result ≡ balancing (position_of position.now) }
     ensures bound { unsigned_abs result ≤ 241920000000 }
 {
     let imbalances: i64 = position
@@ -75,7 +74,7 @@ fn reserve_change(quantity: Quantity, interval: &ReserveInterval) -> i64
 
 /// Line 4, reserve: what a class earns, its day-ahead quantity and then each interval's change of it.
 pub fn reserve(class: &ReserveClass) -> i64
-    ensures value { result ≡ reserve_line (reserve_class_of class.now) }
+    ensures value { result ≡ reserve (reserve_class_of class.now) }
     ensures bound { unsigned_abs result ≤ 480000000000 }
 {
     let changes: i64 = class
@@ -154,16 +153,16 @@ pub fn real_time_make_whole(position: &Position) -> i64
     ensures sound { pos 0 ≤ℤ result }
     ensures bound { unsigned_abs result ≤ 960000000000 }
 {
-    let energy: i64 = position
+    let energy_payments: i64 = position
         .intervals
         .iter()
         .map(|interval| energy_payment(&position.side, interval))
         .sum();
     let class = &position.reserve;
-    let reserve: i64 = class
+    let reserve_payments: i64 = class
         .intervals
         .iter()
         .map(|interval| reserve_payment(&class.offer, interval))
         .sum();
-    energy + reserve
+    energy_payments + reserve_payments
 }
