@@ -2,13 +2,14 @@
 use Rattle.std.proofs.Common.{ℕ, ◌*◌, ◌<◌, ◌≤◌, Bool, true, false, cond, List, ℤ, pos, nat_abs, ◌≤ℤ◌, arith}
 use borrow.Author.Differences.{ints}
 use Rattle.hourfile.specs.declared.lines.Line.{Line}
+use Rattle.hourfile.specs.declared.lines.Line.TheVariants.{DayAheadEnergy}
 use Rattle.hourfile.specs.Hours.{block_line, block_withdrawn, line_grains, place_withdrawn, stands_at}
 use Rattle.hourfile.specs.Tallies.{InBounds, line_bound}
-use Rattle.hourfile.proofs.ByLine.{by_line}
 use Rattle.hourfile.proofs.Sums.{before_most, sum_sound, sum_within}
 
 pub most_bound : (line : Line) → line_bound line ≤ 960000000000
-most_bound = by_line (λ l. line_bound l ≤ 960000000000) (omega arith) (omega arith) (omega arith) (omega arith) (omega arith) (omega arith) (omega arith) (omega arith)
+most_bound DayAheadEnergy = omega arith
+most_bound _ = omega arith
 
 at_most : (t : Bool) (n m : ℕ) → n ≤ m → cond t n 0 ≤ m
 at_most true n m h = h

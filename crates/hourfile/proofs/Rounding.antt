@@ -3,9 +3,9 @@ use Rattle.std.proofs.Common.{◌≡◌, ◌+◌, ◌*◌, ◌≤◌, ℤ, pos, 
 use borrow.Author.Differences.{ints}
 use Rattle.market.specs.Cents.{nearest_cent}
 use Rattle.hourfile.specs.declared.lines.Line.{Line}
+use Rattle.hourfile.specs.declared.lines.Line.TheVariants.{DayAheadEnergy}
 use Rattle.hourfile.specs.Lines.{line_of, no_lines}
 use Rattle.hourfile.specs.Tallies.{grains_on, no_tally}
-use Rattle.hourfile.proofs.ByLine.{by_line}
 
 pub none_rounds : nearest_cent (pos 0) ≡ pos 0
 unfolding nearest_cent
@@ -14,7 +14,8 @@ none_rounds = refl
 -- nothing is rounded to nothing
 pub nothing_rounds : (line : Line) → line_of no_lines line ≡ nearest_cent (grains_on no_tally line)
 unfolding nearest_cent
-nothing_rounds = by_line (λ l. line_of no_lines l ≡ nearest_cent (grains_on no_tally l)) refl refl refl refl refl refl refl refl
+nothing_rounds DayAheadEnergy = refl
+nothing_rounds _ = refl
 
 pub cent_within : (z : ℤ) → 12000 * nat_abs (nearest_cent z) ≤ nat_abs z + 6000
 unfolding nearest_cent

@@ -8,19 +8,20 @@ use Rattle.std.proofs.lemmas.Nat.{mul-le}
 use Rattle.market.specs.Cents.{nearest_cent}
 use Rattle.pools.specs.Sharing.{Shared, before, operator_part, signed_as, sum_of}
 use Rattle.hourfile.specs.declared.lines.Line.{Line}
+use Rattle.hourfile.specs.declared.lines.Line.TheVariants.{DayAheadEnergy}
 use Rattle.hourfile.specs.declared.lines.Lines.{Lines}
 use Rattle.hourfile.specs.declared.tally.Tally.{Tally}
 use Rattle.hourfile.specs.Files.{blocks_in}
 use Rattle.hourfile.specs.Hours.{HourLaws, amount, line_cents, own_cents, pool_part, residual_pool, sum_below, uplift_pool, weight_at, withdrawn_at}
 use Rattle.hourfile.specs.Lines.{line_of, no_lines}
 use Rattle.hourfile.specs.Tallies.{Tallied, grains_on, no_tally}
-use Rattle.hourfile.proofs.ByLine.{by_line}
 use Rattle.hourfile.proofs.Laws.{Parts, cents_within, hour_laws, own_other, own_owner, residual_within, uplift_within}
 use Rattle.hourfile.proofs.Rounding.{nothing_rounds}
 use Rattle.hourfile.proofs.Sums.{before_le, sum_more, sum_same}
 
 pub nothing_on : (line : Line) → line_of no_lines line ≡ pos 0
-nothing_on = by_line (λ l. line_of no_lines l ≡ pos 0) refl refl refl refl refl refl refl refl
+nothing_on DayAheadEnergy = refl
+nothing_on _ = refl
 
 -- ---- the owners' own lines
 -- what the tallies of a file without a fault come to: the places' own lines, and what is struck as pools

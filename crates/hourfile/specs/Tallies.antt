@@ -1,10 +1,11 @@
 -- What a block, or the blocks of a place, come to.
 use Rattle.std.specs.Prelude.{◌≡◌, ℕ, ◌+◌, ◌^◌, ◌<◌, ◌≤◌, List, ℤ, pos, ◌+ℤ◌, ◌≤ℤ◌, FitsSigned, slice_index_or, unsigned_abs}
 use Rattle.std.specs.Int.{w64}
+use Rattle.blocks.specs.Words.{byte_at}
 use Rattle.hourfile.specs.declared.lines.Line.{Line}
 use Rattle.hourfile.specs.declared.lines.Line.TheVariants.{DayAheadEnergy, Balancing, Virtual, Reserve, DayAheadMakeWhole, RealTimeMakeWhole, Uplift, Residual}
 use Rattle.hourfile.specs.declared.tally.Tally.{Tally}
-use Rattle.hourfile.specs.Files.{blocks_in}
+use Rattle.hourfile.specs.Files.{blocks_in, part_of}
 use Rattle.hourfile.specs.Hours.{block_line, block_withdrawn, line_grains, place_withdrawn}
 
 -- The grains of a tally on a line; pools are struck in cents, so it has none on the lines of their shares.
@@ -55,6 +56,14 @@ pub record InBounds (grains : Line → ℤ) (withdrawn : ℕ) : Type 0 where
   pub day_ahead : pos 0 ≤ℤ grains DayAheadMakeWhole
   pub real_time : pos 0 ≤ℤ grains RealTimeMakeWhole
   pub few : withdrawn ≤ 100800
+
+-- What a block after the header comes to: the place of an owner, and the tally of what the block adds there.
+pub record Adds (file : List ℕ) (owners block place : ℕ) (tally : Tally) : Type 0 where
+  pub stands : place ≡ byte_at (part_of file block) 3
+  pub owned : place < owners
+  pub grains : (line : Line) → grains_on tally line ≡ block_line file line block
+  pub withdrawn : tally.withdrawn ≡ block_withdrawn file block
+  pub bounds : InBounds (grains_on tally) tally.withdrawn
 
 -- The tallies of the places, over the first blocks of a file and over all of them. What each block adds is within its bounds.
 pub record TalliedUpto (file : List ℕ) (tallies : List Tally) (blocks : ℕ) : Type 0 where

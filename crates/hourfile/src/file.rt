@@ -89,7 +89,7 @@ impl<'a> HourFile<'a> {
         }
     }
 
-    /// Opens a block, or tells its fault. A block is opened by its number, since what it may say stands in the block before it.
+    /// Opens a block, or tells its fault.
     pub(crate) fn open(&self, block: usize) -> Result<Record<'a>, FileFault>
         requires { block < blocks_in self.now.bytes.now }
         ensures verdict { verdict_in result ≡ lifted block_fault (verdict_at self.now.bytes.now self.now.owners block) }
@@ -105,6 +105,8 @@ pub fn check_file(file: &[u8], owners: u32) -> Result<(), FileFault>
     ensures first { FirstBlockDecides file.now owners result }
 {
     let file = HourFile::new(file, owners)?;
+    // By number, since the number is part of a fault and leads to the block before, which sets the limits: over `chunks_exact` with
+    // `enumerate` the number would be used just so.
     for block in 0..file.blocks() {
         file.open(block)?;
     }

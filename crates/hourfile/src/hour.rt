@@ -25,7 +25,7 @@ use pools::withdrawals::Withdrawals;
 use std::array;
 
 /// The own lines of a place: those of its owner, or nothing.
-fn own(owned: &[Tally], place: usize) -> Lines
+fn own_lines_at(owned: &[Tally], place: usize) -> Lines
     ensures { (line : Line) → line_of result line ≡ nearest_cent (grains_on (slice_index_or owned.now place no_tally) line) }
 {
     owned
@@ -39,7 +39,7 @@ fn own_lines(owned: &[Tally]) -> [Lines; 33]
     ensures whole { length result ≡ 33 }
     ensures lines { (place : ℕ) (line : Line) → line_of (slice_index_or result place no_lines) line ≡ nearest_cent (grains_on (slice_index_or owned.now place no_tally) line) }
 {
-    array::from_fn(|place| own(owned, place))
+    array::from_fn(|place| own_lines_at(owned, place))
 }
 
 /// What the owners withdrew.
@@ -86,6 +86,7 @@ fn add_parts(places: &mut [Lines; 33], owners: Owners, uplift: &Shares, residual
     ensures others { (place : ℕ) → owners.number < place → slice_index_or places.new place no_lines ≡ slice_index_or places.old place no_lines }
 {
     let count = owners.number as usize;
+    // Not over `iter_mut().zip(..)`: what a loop writes through it is not known to the proof after the loop.
     for (place, lines) in places[..count].iter_mut().enumerate() {
         *lines = lines.with_parts(uplift.owners[place], residual.owners[place]);
     }
@@ -104,9 +105,10 @@ pub fn settle<U: Basis, R: Basis>(
     ensures settles { IfOk result (Settles file.now owners.number (U.Basis.weighs uplift.now) (R.Basis.weighs residual.now)) }
 {
     let tallies = tallies(file, owners)?;
+    let count = owners.number as usize;
     let withdrawn = withdrawals(&tallies, owners);
-    let mut places = own_lines(&tallies[..owners.number as usize]);
-    let owned = &places[..owners.number as usize];
+    let mut places = own_lines(&tallies[..count]);
+    let owned = &places[..count];
     let uplift_pool = total(owned, Lines::uplift_part);
     let residual_pool = -total(owned, Lines::trade_part);
     let uplift_shares = shared(uplift_pool, uplift, &withdrawn);

@@ -78,7 +78,9 @@ impl Lines {
 
     /// Lines 4 to 6 together, which the uplift pool gathers.
     pub(crate) fn uplift_part(self) -> i64
-        requires { (line : Line) → unsigned_abs (line_of self line) ≤ 6000000000 }
+        requires reserve { unsigned_abs self.reserve ≤ 6000000000 }
+        requires day_ahead { unsigned_abs self.day_ahead_make_whole ≤ 6000000000 }
+        requires real_time { unsigned_abs self.real_time_make_whole ≤ 6000000000 }
         ensures exact { result ≡ uplift_part (line_of self) }
         ensures bound { unsigned_abs result ≤ 18000000000 }
     {
@@ -87,7 +89,9 @@ impl Lines {
 
     /// Lines 1 to 3 together, which the residual pool pays back.
     pub(crate) fn trade_part(self) -> i64
-        requires { (line : Line) → unsigned_abs (line_of self line) ≤ 6000000000 }
+        requires day_ahead { unsigned_abs self.day_ahead_energy ≤ 6000000000 }
+        requires balancing { unsigned_abs self.balancing ≤ 6000000000 }
+        requires virtual_trade { unsigned_abs self.virtual_trade ≤ 6000000000 }
         ensures exact { result ≡ trade_part (line_of self) }
         ensures bound { unsigned_abs result ≤ 18000000000 }
     {

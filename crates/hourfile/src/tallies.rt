@@ -4,13 +4,12 @@ ghost use Rattle.std.specs.Prelude.{◌≡◌, ◌<◌, ◌≤◌, true, length,
 ghost use Rattle.blocks.specs.Firsts.{lifted};
 ghost use Rattle.blocks.specs.Lone.{verdict_in};
 ghost use Rattle.blocks.specs.Records.{opened};
-ghost use Rattle.blocks.specs.Words.{byte_at};
 ghost use Rattle.blocks.specs.declared.fault.FileFault.TheVariants.{Block as block_fault};
 ghost use Rattle.blocks.specs.declared.kind.Kind.TheVariants.{Resource as resource_kind, Virtual as virtual_kind};
 ghost use Rattle.hourfile.specs.Files.{blocks_in, file_verdict, part_of, verdict_at};
 ghost use Rattle.hourfile.specs.HourAnswers.{hour_of};
-ghost use Rattle.hourfile.specs.Hours.{block_line, block_withdrawn, kind_line, kind_withdrawn};
-ghost use Rattle.hourfile.specs.Tallies.{InBounds, Tallied, grains_on};
+ghost use Rattle.hourfile.specs.Hours.{kind_line, kind_withdrawn};
+ghost use Rattle.hourfile.specs.Tallies.{Adds, InBounds, Tallied, grains_on};
 ghost use Rattle.hourfile.specs.declared.lines.Line.{Line};
 ghost use Rattle.market.specs.Views.{zone_prices_of};
 ghost use Rattle.records.specs.Contents.{has_position, has_virtual_position, zone_prices_at};
@@ -48,16 +47,16 @@ fn block_tally(zone: &ZonePrices, block: &Record) -> Tally
 }
 
 /// The place of a block after the header, and what the block comes to.
-fn placed(file: &HourFile, zone: &ZonePrices, block: usize) -> Result<(usize, Tally), FileFault>
+fn place_and_tally(
+    file: &HourFile,
+    zone: &ZonePrices,
+    block: usize,
+) -> Result<(usize, Tally), FileFault>
     requires later { 1 ≤ block }
     requires inside { block < blocks_in file.now.bytes.now }
     requires priced { zone_prices_of zone.now ≡ zone_prices_at (part_of file.now.bytes.now 0) }
     ensures verdict { verdict_in result ≡ lifted block_fault (verdict_at file.now.bytes.now file.now.owners block) }
-    ensures place { IfOk result (λ placed. placed.0 ≡ byte_at (part_of file.now.bytes.now block) 3) }
-    ensures owned { IfOk result (λ placed. placed.0 < file.now.owners) }
-    ensures grains { IfOk result (λ placed. (line : Line) → grains_on placed.1 line ≡ block_line file.now.bytes.now line block) }
-    ensures withdrawn { IfOk result (λ placed. placed.1.withdrawn ≡ block_withdrawn file.now.bytes.now block) }
-    ensures bounds { IfOk result (λ placed. InBounds (grains_on placed.1) placed.1.withdrawn) }
+    ensures adds { IfOk result (λ (place, tally). Adds file.now.bytes.now file.now.owners block place tally) }
 {
     let record = file.open(block)?;
     let place = usize::from(record.part()[3]);
@@ -76,8 +75,9 @@ pub(crate) fn tallies(file: &[u8], owners: Owners) -> Result<[Tally; 32], FileFa
     let file = HourFile::new(file, owners.number)?;
     let zone = zone(&file)?;
     let mut all = [Tally::default(); 32];
+    // By number, as in `check_file`.
     for block in 1..file.blocks() {
-        let (place, tally) = placed(&file, &zone, block)?;
+        let (place, tally) = place_and_tally(&file, &zone, block)?;
         all[place] += tally;
     }
     Ok(all)

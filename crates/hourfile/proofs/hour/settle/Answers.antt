@@ -2,6 +2,7 @@ use Rattle.std.proofs.Common.{◌≡◌, ◌<◌, ◌≤◌, pos, ◌-ℤ◌, ap
 use borrow.Author.Differences.{ints}
 use Rattle.std.proofs.lemmas.Bool.{cases_lt}
 use Rattle.pools.specs.Sharing.{Shared}
+use Rattle.hourfile.specs.declared.lines.Line.TheVariants.{DayAheadEnergy, Balancing, Virtual, Reserve, DayAheadMakeWhole, RealTimeMakeWhole}
 use Rattle.hourfile.specs.Hours.{amount, residual_pool, trade_part, uplift_part, uplift_pool, weight_at}
 use Rattle.hourfile.specs.Lines.{line_of}
 use Rattle.hourfile.proofs.Laws.{own_other}
@@ -16,10 +17,14 @@ own_here g c =
     own c.args.file.now c.args.owners.number c.args.owners.few t.few _ t.tallied t.whole _ c.own_lines-places.ensures.whole c.own_lines-places.ensures.lines
 
 pub total-uplift_pool-requires-clause-callable : goal.total-uplift_pool-requires-clause-callable
-total-uplift_pool-requires-clause-callable g c = (own_here g (goal.at.total-uplift_pool-requires-clause-callable g c).After-own_lines-places).small
+total-uplift_pool-requires-clause-callable g c place h =
+    let small = (own_here g (goal.at.total-uplift_pool-requires-clause-callable g c).After-own_lines-places).small place h in
+    (small Reserve, (small DayAheadMakeWhole, small RealTimeMakeWhole))
 
 pub total-residual_pool-requires-clause-callable : goal.total-residual_pool-requires-clause-callable
-total-residual_pool-requires-clause-callable g c = (own_here g (goal.at.total-residual_pool-requires-clause-callable g c).After-own_lines-places).small
+total-residual_pool-requires-clause-callable g c place h =
+    let small = (own_here g (goal.at.total-residual_pool-requires-clause-callable g c).After-own_lines-places).small place h in
+    (small DayAheadEnergy, (small Balancing, small Virtual))
 
 -- ---- what is struck is the pool, and what is shared out are its shares
 uplift_struck : (g : _) (c : After-total-uplift_pool g) → Own c.args.file.now c.args.owners.number c.in_ok-tallies.tallies c.own_lines-places.result

@@ -50,20 +50,18 @@ returns-in_err-place-clause-verdict c =
 pub add_assign-requires : goal.add_assign-requires
 add_assign-requires c =
     let file = c.in_ok-file.file in
-    let here = c.in_ok-place.ensures in
-    can_add file.bytes.now c.loop-block.all c.loop-block.block c.in_ok-place.place c.in_ok-place.tally here.place c.loop-block.invariant.tallied here.grains here.withdrawn here.bounds (omega (arith, file.few))
+    can_add file.bytes.now file.owners c.loop-block.all c.loop-block.block c.in_ok-place.place c.in_ok-place.tally c.loop-block.invariant.tallied c.in_ok-place.ensures.adds (omega (arith, file.few))
 
 pub loop-block-preserved : goal.loop-block-preserved
 loop-block-preserved c =
     let file = c.in_ok-file.file in
     let here = c.in_ok-place.ensures in
     let owners = c.in_ok-file.ensures.owned in
-    let room : c.in_ok-place.place < length c.loop-block.all = omega (arith, here.owned) in
+    let room : c.in_ok-place.place < length c.loop-block.all = omega (arith, here.adds.owned) in
     record {
       passed = up_to_more (λ k. lifted Block (verdict_at file.bytes.now file.owners k)) c.loop-block.block c.loop-block.invariant.passed (sym here.verdict);
       whole = length-set _ _ _ ∙ c.loop-block.invariant.whole;
-      tallied = tallied_more file.bytes.now c.loop-block.all c.loop-block.block c.in_ok-place.place c.in_ok-place.tally here.place c.loop-block.invariant.tallied here.grains here.withdrawn here.bounds
-          c.add_assign.new.self c.add_assign.ensures.after room;
+      tallied = tallied_more file.bytes.now file.owners c.loop-block.all c.loop-block.block c.in_ok-place.place c.in_ok-place.tally c.loop-block.invariant.tallied here.adds c.add_assign.new.self c.add_assign.ensures.after room;
     }
 
 pub returns-clause-verdict : goal.returns-clause-verdict
