@@ -1,12 +1,12 @@
 -- Good rows make a lawful ladder. These lemmas stand here since the laws of the offers and bids of the code name them.
-use Rattle.std.proofs.Common.{◌≡◌, ℕ, zero, suc, ◌<◌, ◌≤◌, true, cond, ◌&&◌, ltb, List, length, ℤ, pos, negsuc, ◌-ℤ◌, nat_abs, ◌≤ℤ◌, ◌<ℤ◌, ap, ⊎_elim, arith}
+use Rattle.std.proofs.Common.{◌≡◌, ℕ, zero, suc, ◌<◌, ◌≤◌, true, cond, ◌&&◌, ltb, List, length, ℤ, pos, negsuc, nat_abs, ◌≤ℤ◌, ◌<ℤ◌, ap, ⊎_elim, arith}
 use lib.Signed.{le_z, lt_z}
 use borrow.Author.Differences.{ints}
 use Rattle.std.proofs.lemmas.List.{get_or_past}
 use Rattle.std.proofs.lemmas.Int.{clamps}
 use Rattle.std.proofs.lemmas.Bool.{and_parts, cases_lt, lt-ltb, le-ltb}
 use Rattle.ladders.specs.Ladder.{Rows, Lawful, counted_price, start}
-use Rattle.ladders.specs.Rows.{AllGood, row_at, no_row, follows, lowest_price, in_range, in_step, row_before, offer_ladder, bid_ladder}
+use Rattle.ladders.specs.Rows.{AllGood, row_at, no_row, follows, lowest_price, in_range, in_step, row_before, gained, row_ladder}
 use Rattle.ladders.specs.declared.rows.Row.{Row}
 use Rattle.ladders.specs.declared.rows.LadderKind.{LadderKind}
 use Rattle.ladders.specs.declared.rows.LadderKind.TheVariants.{Offer, Bid, Reserve}
@@ -14,8 +14,15 @@ use Rattle.ladders.specs.declared.rows.LadderKind.TheVariants.{Offer, Bid, Reser
 counted_price_twice : (p : ℤ) → counted_price p ≡ counted_price (counted_price p)
 counted_price_twice p = omega (arith, ints, clamps)
 
-pub gain_within : (p q : ℤ) → nat_abs q ≤ 200000 → (nat_abs (counted_price p -ℤ q) ≤ 400000) × (nat_abs (q -ℤ counted_price p) ≤ 400000)
-gain_within p q h = omega (arith, ints, clamps)
+gained_within : (kind : LadderKind) (p q : ℤ) → nat_abs q ≤ 200000 → nat_abs (gained kind (counted_price p) q) ≤ 400000
+gained_within Offer p q h = omega (arith, ints, clamps)
+gained_within Bid p q h = omega (arith, ints, clamps)
+gained_within Reserve p q h = omega (arith, ints, clamps)
+
+gained_falls : (kind : LadderKind) (p before next : ℤ) → follows kind before next ≡ true → gained kind p next ≤ℤ gained kind p before
+gained_falls Offer p before next h = grind (arith, ints)
+gained_falls Bid p before next h = grind (arith, ints)
+gained_falls Reserve p before next h = grind (arith, ints)
 
 lowest_is : (kind : LadderKind) → negsuc 199999 ≤ℤ lowest_price kind
 lowest_is Offer = omega (arith, ints)
@@ -105,20 +112,11 @@ module _ (there : ℤ → ℕ → ℤ) (n : ℕ) where
   gain_falls : ((p : ℤ) (row : ℕ) → suc row < n → there p (suc row) ≤ℤ there p row) → (p : ℤ) (row : ℕ) → suc row < n → gain_of p (suc row) ≤ℤ gain_of p row
   gain_falls falls p row h = rw (gain_there p (suc row) h, gain_there p row (omega arith)) (falls p row h)
 
-pub offer_lawful : (rows : List Row) → AllGood Offer rows → Lawful (offer_ladder rows)
-offer_lawful rows all =
-    let there : ℤ → ℕ → ℤ = λ p row. counted_price p -ℤ (row_at rows row).price in
-    lawful Offer rows all (gain_of there (length rows))
-    (gain_falls there (length rows) (λ p row h. let up = (risen Offer rows all row h).1 in grind (arith, ints)))
-    (gain_bounded there (length rows) (λ p row h. (gain_within p (row_at rows row).price (price_within Offer rows all row h)).0))
-    (λ p row. ap (λ q. cond (ltb row (length rows)) (q -ℤ (row_at rows row).price) (pos 0)) (counted_price_twice p))
-    (gain_past there (length rows))
-
-pub bid_lawful : (rows : List Row) → AllGood Bid rows → Lawful (bid_ladder rows)
-bid_lawful rows all =
-    let there : ℤ → ℕ → ℤ = λ p row. (row_at rows row).price -ℤ counted_price p in
-    lawful Bid rows all (gain_of there (length rows))
-    (gain_falls there (length rows) (λ p row h. let down = (risen Bid rows all row h).1 in grind (arith, ints)))
-    (gain_bounded there (length rows) (λ p row h. (gain_within p (row_at rows row).price (price_within Bid rows all row h)).1))
-    (λ p row. ap (λ q. cond (ltb row (length rows)) ((row_at rows row).price -ℤ q) (pos 0)) (counted_price_twice p))
+pub row_lawful : (kind : LadderKind) (rows : List Row) → AllGood kind rows → Lawful (row_ladder kind rows)
+row_lawful kind rows all =
+    let there : ℤ → ℕ → ℤ = λ p row. gained kind (counted_price p) (row_at rows row).price in
+    lawful kind rows all (gain_of there (length rows))
+    (gain_falls there (length rows) (λ p row h. gained_falls kind (counted_price p) (row_at rows row).price (row_at rows (suc row)).price (risen kind rows all row h).1))
+    (gain_bounded there (length rows) (λ p row h. gained_within kind p (row_at rows row).price (price_within kind rows all row h)))
+    (λ p row. ap (λ q. cond (ltb row (length rows)) (gained kind q (row_at rows row).price) (pos 0)) (counted_price_twice p))
     (gain_past there (length rows))

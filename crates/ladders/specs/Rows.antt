@@ -64,18 +64,24 @@ Made rows_of kind rows (Ok ladder) = (length rows ≤ most_rows kind) × AllGood
 Made rows_of kind rows (Err fault) = FirstFault kind rows fault
 
 -- ---- the ladder that rows mean
--- An offer gains the price less the row's price.
-abbrev pub offer_ladder : List Row → Rows
-offer_ladder rows = record {
+-- What a row gains, of its price and the price: in an offer the price less the row's price, and in a bid the other way round.
+abbrev pub gained : LadderKind → ℤ → ℤ → ℤ
+gained Offer price row_price = price -ℤ row_price
+gained Bid price row_price = row_price -ℤ price
+gained Reserve price row_price = price -ℤ row_price
+
+-- A ladder of a kind.
+abbrev pub row_ladder : LadderKind → List Row → Rows
+row_ladder kind rows = record {
   count = length rows;
   end = λ row. unsigned_abs (row_at rows row).end;
-  gain = λ price row. cond (nat_lt row (length rows)) (counted_price price -ℤ (row_at rows row).price) (pos 0);
+  gain = λ price row. cond (nat_lt row (length rows)) (gained kind (counted_price price) (row_at rows row).price) (pos 0);
 }
+
+-- An offer gains the price less the row's price, and an offer of reserve does too.
+abbrev pub offer_ladder : List Row → Rows
+offer_ladder rows = row_ladder Offer rows
 
 -- A bid gains the row's price less the price.
 abbrev pub bid_ladder : List Row → Rows
-bid_ladder rows = record {
-  count = length rows;
-  end = λ row. unsigned_abs (row_at rows row).end;
-  gain = λ price row. cond (nat_lt row (length rows)) ((row_at rows row).price -ℤ counted_price price) (pos 0);
-}
+bid_ladder rows = row_ladder Bid rows

@@ -5,5 +5,6 @@
 pub mod bid;
 pub mod ladder;
 pub mod offer;
+pub mod row_ladder;
 mod row_list;
 pub mod rows;

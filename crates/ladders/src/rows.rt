@@ -1,19 +1,19 @@
 //! Rows as a site writes them, and which of them make a ladder.
 
-ghost use Rattle.std.specs.Prelude.{◌≡◌, ℕ, ◌<◌, ◌≤◌, length, MatchResult};
-ghost use Rattle.ladders.specs.Rows.{AllGood, FirstFault, follows, in_range, in_step, lowest_price, most_rows};
+ghost use Rattle.std.specs.Prelude.{◌≡◌, ℕ, ◌<◌, ◌≤◌, length, MatchResult, unsigned_abs};
+ghost use Rattle.ladders.specs.Rows.{AllGood, FirstFault, follows, gained, in_range, in_step, lowest_price, most_rows};
 
 use std::fmt;
 
 /// A row: its price in cents per MWh, and its end in tenths of a MW.
-#[derive(Clone, Copy)]
+#[derive(Clone, Copy, Debug, PartialEq, Eq)]
 pub struct Row {
     pub price: i32,
     pub end: i32,
 }
 
 /// The ladders that are made of rows.
-#[derive(Clone, Copy)]
+#[derive(Clone, Copy, Debug, PartialEq, Eq)]
 pub enum LadderKind {
     Offer,
     Bid,
@@ -83,6 +83,18 @@ impl LadderKind {
         match before {
             None => 0 < row.end,
             Some(last) => last.end < row.end && self.follows(last.price, row.price),
+        }
+    }
+
+    /// What a row of this price gains: an offer's the price less the row's price, and a bid's the other way round.
+    pub(crate) fn gain(self, price: i32, row_price: i32) -> i32
+        requires near { unsigned_abs price ≤ 200000 }
+        requires row_near { unsigned_abs row_price ≤ 200000 }
+        ensures { result ≡ gained self price row_price }
+    {
+        match self {
+            LadderKind::Offer | LadderKind::Reserve => price - row_price,
+            LadderKind::Bid => row_price - price,
         }
     }
 

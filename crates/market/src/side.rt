@@ -3,7 +3,7 @@
 ghost use Rattle.market.specs.Sides.{ladder_of, trade_of};
 ghost use Rattle.std.specs.Prelude.{◌≡◌};
 ghost use Rattle.market.specs.declared.side.Side.TheVariants.{Generator, DispatchableLoad, LoadWithoutBids};
-ghost use Rattle.ladders.proofs.Held.{offer_held, bid_held};
+ghost use Rattle.ladders.proofs.Held.{row_held};
 ghost use Rattle.market.specs.SideLadderLemmas.{none_lawful};
 
 use crate::trade::Trade;
@@ -36,8 +36,8 @@ impl Ladder for Side {
     ghost means = { ladder_of };
 
     ghost lawful = { elim [
-      | Generator offer ↦ offer_held offer
-      | DispatchableLoad bid ↦ bid_held bid
+      | Generator offer ↦ row_held offer
+      | DispatchableLoad bid ↦ row_held bid
       | LoadWithoutBids ↦ none_lawful
     ] };
 
