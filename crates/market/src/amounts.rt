@@ -1,63 +1,40 @@
 //! The six lines of a position, in grains.
 
-ghost use Rattle.std.specs.Prelude.{◌≡◌, ℕ, ◌*◌, ◌≤◌, map, pos, ◌*ℤ◌, ◌≤ℤ◌, unsigned_abs};
+ghost use Rattle.std.specs.Prelude.{◌≡◌, ◌≤◌, map, pos, ◌≤ℤ◌, unsigned_abs};
 ghost use Rattle.market.specs.Amounts.{day_ahead_energy, day_ahead_make_whole, energy_payment, real_time_make_whole, reserve_change, reserve_loss, reserve_payment, total, virtual_trade};
 ghost use Rattle.market.specs.Amounts.{balancing as balanced, imbalance as imbalance_of, reserve as reserve_line, spread as spread_of};
 ghost use Rattle.ladders.specs.Offers.{reserve_rows};
 ghost use Rattle.ladders.specs.Rows.{offer_ladder};
 ghost use Rattle.market.specs.Sides.{ladder_of};
-ghost use Rattle.market.specs.Views.{cents_of, interval_of, position_of, reserve_class_of, reserve_interval_of, virtual_position_of, zone_prices_of};
+ghost use Rattle.market.specs.Views.{interval_of, position_of, reserve_class_of, reserve_interval_of, size_of, value_of, virtual_position_of, zone_prices_of};
 
-use crate::figures::{Price, Quantity, ReservePrice};
+use crate::figures::{Price, Quantity};
 use crate::position::{
     Interval, Position, ReserveClass, ReserveInterval, VirtualPosition, ZonePrices,
 };
 use ladders::ladder::{Ladder, best_profit, lost_profit, profit};
-
-/// A price times a quantity; the one may be a sum over the hour, the other a difference.
-fn worth(price: i64, quantity: i64) -> i64
-    requires priced { unsigned_abs price ≤ 4800000 }
-    requires sized { unsigned_abs quantity ≤ 100800 }
-    ensures value { result ≡ price *ℤ quantity }
-    ensures bound { (m n : ℕ) → unsigned_abs price ≤ m → unsigned_abs quantity ≤ n → unsigned_abs result ≤ m * n }
-{
-    price * quantity
-}
-
-/// The day-ahead quantity at its price, as a sale sees it.
-fn day_ahead_worth(position: &Position) -> i64
-    ensures value { result ≡ position.now.price.cents *ℤ pos position.now.quantity.tenths }
-    ensures bound { unsigned_abs result ≤ 200000000 }
-{
-    worth(
-        i64::from(position.price.cents),
-        i64::from(position.quantity.tenths),
-    )
-}
 
 /// Line 1, day-ahead energy: the day-ahead quantity at its price.
 pub fn day_ahead_energy(position: &Position) -> i64
     ensures value { result ≡ day_ahead_energy (position_of position.now) }
     ensures bound { unsigned_abs result ≤ 240000000000 }
 {
-    position
-        .side
-        .trade()
-        .signed(1_200 * day_ahead_worth(position))
+    let worth = i64::from(position.price.value) * i64::from(position.quantity.value);
+    position.side.trade().signed(1_200 * worth)
 }
 
 /// What one interval's reading earns beyond the day-ahead quantity, as a sale sees it.
 fn imbalance(quantity: Quantity, interval: &Interval) -> i64
-    ensures value { result ≡ imbalance_of quantity.tenths (interval_of interval.now) }
+    ensures value { result ≡ imbalance_of (size_of quantity) (interval_of interval.now) }
     ensures bound { unsigned_abs result ≤ 20160000000 }
 {
-    let beyond = 12 * i64::from(interval.reading.kwh) - 100 * i64::from(quantity.tenths);
-    worth(i64::from(interval.price.cents), beyond)
+    let beyond = 12 * i64::from(interval.reading.value) - 100 * i64::from(quantity.value);
+    i64::from(interval.price.value) * beyond
 }
 
 /// What the readings earn beyond the day-ahead quantity, as a sale sees it.
 fn imbalance_total(position: &Position) -> i64
-    ensures value { result ≡ total (imbalance_of position.now.quantity.tenths) (map interval_of position.now.intervals) }
+    ensures value { result ≡ total (imbalance_of (size_of position.now.quantity)) (map interval_of position.now.intervals) }
     ensures bound { unsigned_abs result ≤ 241920000000 }
 {
     let mut sum = 0;
@@ -77,15 +54,15 @@ pub fn balancing(position: &Position) -> i64
 
 /// The day-ahead price of the zone less its price in one interval.
 fn spread(day_ahead: Price, price: Price) -> i64
-    ensures value { result ≡ spread_of day_ahead.cents (cents_of price) }
+    ensures value { result ≡ spread_of day_ahead.value price.value }
     ensures bound { unsigned_abs result ≤ 400000 }
 {
-    i64::from(day_ahead.cents) - i64::from(price.cents)
+    i64::from(day_ahead.value) - i64::from(price.value)
 }
 
 /// The spreads of the hour.
 fn spread_total(zone: &ZonePrices) -> i64
-    ensures value { result ≡ total (spread_of zone.now.day_ahead.cents) (map cents_of zone.now.real_time) }
+    ensures value { result ≡ total (spread_of zone.now.day_ahead.value) (map value_of zone.now.real_time) }
     ensures bound { unsigned_abs result ≤ 4800000 }
 {
     let mut sum = 0;
@@ -95,43 +72,27 @@ fn spread_total(zone: &ZonePrices) -> i64
     sum
 }
 
-/// The quantity times the spreads of the hour, as a sale sees it.
-fn virtual_worth(zone: &ZonePrices, position: &VirtualPosition) -> i64
-    ensures value { result ≡ pos position.now.quantity.tenths *ℤ total (spread_of zone.now.day_ahead.cents) (map cents_of zone.now.real_time) }
-    ensures bound { unsigned_abs result ≤ 4800000000 }
-{
-    worth(spread_total(zone), i64::from(position.quantity.tenths))
-}
-
 /// Line 3, virtual: the quantity at the day-ahead price of the zone, less its price in each interval.
 pub fn virtual_trade(zone: &ZonePrices, position: &VirtualPosition) -> i64
     ensures value { result ≡ virtual_trade (zone_prices_of zone.now) (virtual_position_of position.now) }
     ensures bound { unsigned_abs result ≤ 480000000000 }
 {
-    position.trade.signed(100 * virtual_worth(zone, position))
-}
-
-/// A reserve price times a quantity or a change of it.
-fn reserve_worth(price: ReservePrice, quantity: i64) -> i64
-    requires { unsigned_abs quantity ≤ 1000 }
-    ensures value { result ≡ pos price.cents *ℤ quantity }
-    ensures bound { unsigned_abs result ≤ 200000000 }
-{
-    worth(i64::from(price.cents), quantity)
+    let worth = i64::from(position.quantity.value) * spread_total(zone);
+    position.trade.signed(100 * worth)
 }
 
 /// What one interval's change of the reserve schedule earns.
 fn reserve_change(quantity: Quantity, interval: &ReserveInterval) -> i64
-    ensures value { result ≡ reserve_change quantity.tenths (reserve_interval_of interval.now) }
+    ensures value { result ≡ reserve_change (size_of quantity) (reserve_interval_of interval.now) }
     ensures bound { unsigned_abs result ≤ 20000000000 }
 {
-    let change = i64::from(interval.schedule.tenths) - i64::from(quantity.tenths);
-    100 * reserve_worth(interval.price, change)
+    let change = i64::from(interval.schedule.value) - i64::from(quantity.value);
+    100 * i64::from(interval.price.value) * change
 }
 
 /// What the changes of the reserve schedule earn.
 fn reserve_change_total(class: &ReserveClass) -> i64
-    ensures value { result ≡ total (reserve_change class.now.quantity.tenths) (map reserve_interval_of class.now.intervals) }
+    ensures value { result ≡ total (reserve_change (size_of class.now.quantity)) (map reserve_interval_of class.now.intervals) }
     ensures bound { unsigned_abs result ≤ 240000000000 }
 {
     let mut sum = 0;
@@ -146,8 +107,8 @@ pub fn reserve(class: &ReserveClass) -> i64
     ensures value { result ≡ reserve_line (reserve_class_of class.now) }
     ensures bound { unsigned_abs result ≤ 480000000000 }
 {
-    let day_ahead = reserve_worth(class.price, i64::from(class.quantity.tenths));
-    1_200 * day_ahead + reserve_change_total(class)
+    let day_ahead = 1_200 * i64::from(class.price.value) * i64::from(class.quantity.value);
+    day_ahead + reserve_change_total(class)
 }
 
 /// Line 5, day-ahead make-whole: the lost profit of the day-ahead quantities, over twelve intervals. It is never negative.
@@ -158,8 +119,8 @@ pub fn day_ahead_make_whole(position: &Position) -> i64
 {
     let energy = lost_profit(
         &position.side,
-        position.price.cents,
-        position.quantity.tenths,
+        position.price.value,
+        position.quantity.value.unsigned_abs(),
     );
     12 * (energy + reserve_loss(&position.reserve))
 }
@@ -172,8 +133,8 @@ fn reserve_loss(class: &ReserveClass) -> i64
 {
     lost_profit(
         &class.offer,
-        class.price.cents as i32,
-        class.quantity.tenths,
+        class.price.value,
+        class.quantity.value.unsigned_abs(),
     )
 }
 
@@ -184,9 +145,9 @@ pub fn energy_payment<L: Ladder>(ladder: &L, interval: &Interval) -> i64
     ensures sound { pos 0 ≤ℤ result }
     ensures bound { unsigned_abs result ≤ 40000000000 }
 {
-    let price = interval.price.cents;
-    let scheduled = profit(ladder, price, 100 * u64::from(interval.schedule.tenths));
-    let metered = profit(ladder, price, 12 * u64::from(interval.reading.kwh));
+    let price = interval.price.value;
+    let scheduled = profit(ladder, price, 100 * u64::from(interval.schedule.value.unsigned_abs()));
+    let metered = profit(ladder, price, 12 * u64::from(interval.reading.value.unsigned_abs()));
     best_profit(ladder, price) - scheduled.max(metered)
 }
 
@@ -198,8 +159,8 @@ pub fn reserve_payment<L: Ladder>(ladder: &L, interval: &ReserveInterval) -> i64
 {
     lost_profit(
         ladder,
-        interval.price.cents as i32,
-        interval.schedule.tenths,
+        interval.price.value,
+        interval.schedule.value.unsigned_abs(),
     )
 }
 

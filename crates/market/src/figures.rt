@@ -1,75 +1,93 @@
 //! Figures that carry their range in their type.
 
-ghost use Rattle.std.specs.Prelude.{◌≤◌, pos, unsigned_abs};
-ghost use Rattle.market.specs.Figures.{Taken};
+ghost use Rattle.std.specs.Prelude.{◌≤ℤ◌};
+ghost use Rattle.market.specs.Figures.{Taken, highest, lowest};
+ghost use Rattle.market.specs.declared.range.Figure.{Figure};
 ghost use Rattle.market.specs.declared.range.Figure.TheVariants.{Price as price_figure, Quantity as quantity_figure, Reading as reading_figure, ReservePrice as reserve_price_figure};
 
 use crate::range::{Figure, OutOfRange};
+use std::alloc::AllocError;
+use std::marker::PhantomData;
 
-/// A price of energy.
-#[derive(Clone, Copy)]
-pub struct Price {
-    pub cents: i32,
-    ghost in_range: { unsigned_abs cents ≤ 200000 },
+/// A kind of figure, as a type.
+pub trait FigureKind: Copy {
+    ghost FIGURE: { Figure };
+
+    const FIGURE: Figure;
 }
 
-/// A price of reserve.
-#[derive(Clone, Copy)]
-pub struct ReservePrice {
-    pub cents: u32,
-    ghost in_range: { cents ≤ 200000 },
+/// A number in the range of its kind of figure.
+#[derive(Debug, PartialEq, Eq)]
+#[derive_where(Copy)]
+pub struct Ranged<K: FigureKind> {
+    pub value: i32,
+    pub of: PhantomData<K>,
+    ghost low: { lowest K.FIGURE ≤ℤ value },
+    ghost high: { value ≤ℤ highest K.FIGURE },
 }
 
-/// A scheduled quantity.
-#[derive(Clone, Copy)]
-pub struct Quantity {
-    pub tenths: u32,
-    ghost in_range: { tenths ≤ 1000 },
-}
+/// A price of energy, in cents per MWh.
+pub type Price = Ranged<PriceKind>;
 
-/// What a meter read over one interval.
-#[derive(Clone, Copy)]
-pub struct Reading {
-    pub kwh: u32,
-    ghost in_range: { kwh ≤ 8400 },
-}
+/// A price of reserve, in cents per MWh.
+pub type ReservePrice = Ranged<ReservePriceKind>;
 
-impl Price {
-    pub fn new(cents: i32) -> Result<Price, OutOfRange>
-        ensures { Taken (λ p. p.cents) price_figure cents result }
-    {
-        let cents = Figure::Price.check(cents)?;
-        Ok(Price { cents })
+/// A scheduled quantity, in tenths of a MW.
+pub type Quantity = Ranged<QuantityKind>;
+
+/// What a meter read over one interval, in kWh per interval.
+pub type Reading = Ranged<ReadingKind>;
+
+impl<K: FigureKind> Clone for Ranged<K> {
+    fn clone(&self) -> Result<Self, AllocError> {
+        Ok(*self)
     }
 }
 
-impl ReservePrice {
-    pub fn new(cents: i32) -> Result<ReservePrice, OutOfRange>
-        ensures { Taken (λ p. pos p.cents) reserve_price_figure cents result }
+impl<K: FigureKind> Ranged<K> {
+    pub fn new(value: i32) -> Result<Ranged<K>, OutOfRange>
+        ensures { Taken (λ r. r.value) K.FIGURE value result }
     {
-        let cents = Figure::ReservePrice.check(cents)?;
-        Ok(ReservePrice {
-            cents: cents as u32,
+        let value = K::FIGURE.check(value)?;
+        Ok(Ranged {
+            value,
+            of: PhantomData,
         })
     }
 }
 
-impl Quantity {
-    pub fn new(tenths: i32) -> Result<Quantity, OutOfRange>
-        ensures { Taken (λ q. pos q.tenths) quantity_figure tenths result }
-    {
-        let tenths = Figure::Quantity.check(tenths)?;
-        Ok(Quantity {
-            tenths: tenths as u32,
-        })
-    }
+#[derive(Clone, Copy, Debug, PartialEq, Eq)]
+pub struct PriceKind;
+
+impl FigureKind for PriceKind {
+    ghost FIGURE = { price_figure };
+
+    const FIGURE: Figure = Figure::Price;
 }
 
-impl Reading {
-    pub fn new(kwh: i32) -> Result<Reading, OutOfRange>
-        ensures { Taken (λ m. pos m.kwh) reading_figure kwh result }
-    {
-        let kwh = Figure::Reading.check(kwh)?;
-        Ok(Reading { kwh: kwh as u32 })
-    }
+#[derive(Clone, Copy, Debug, PartialEq, Eq)]
+pub struct ReservePriceKind;
+
+impl FigureKind for ReservePriceKind {
+    ghost FIGURE = { reserve_price_figure };
+
+    const FIGURE: Figure = Figure::ReservePrice;
+}
+
+#[derive(Clone, Copy, Debug, PartialEq, Eq)]
+pub struct QuantityKind;
+
+impl FigureKind for QuantityKind {
+    ghost FIGURE = { quantity_figure };
+
+    const FIGURE: Figure = Figure::Quantity;
+}
+
+#[derive(Clone, Copy, Debug, PartialEq, Eq)]
+pub struct ReadingKind;
+
+impl FigureKind for ReadingKind {
+    ghost FIGURE = { reading_figure };
+
+    const FIGURE: Figure = Figure::Reading;
 }

@@ -67,13 +67,12 @@ impl Figure {
     pub fn check(self, value: i32) -> Result<i32, OutOfRange>
         ensures { Taken (λ v. v) self value result }
     {
-        if value < self.lowest() || value > self.highest() {
-            Err(OutOfRange {
+        (self.lowest()..=self.highest())
+            .contains(&value)
+            .then_some(value)
+            .ok_or(OutOfRange {
                 figure: self,
                 value,
             })
-        } else {
-            Ok(value)
-        }
     }
 }

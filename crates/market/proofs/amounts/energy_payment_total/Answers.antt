@@ -4,7 +4,7 @@ use Rattle.std.proofs.lemmas.Int.{to_z-of_z}
 use Rattle.std.proofs.lemmas.List.Sums.{fold_more}
 use Rattle.market.specs.Amounts.{energy_payment}
 use Rattle.market.specs.Sides.{ladder_of}
-use Rattle.market.specs.Views.{interval_of}
+use Rattle.market.specs.Views.{interval_of, size_of}
 use Rattle.market.proofs.Totals.{total_all}
 use Rattle.market.proofs.amounts.energy_payment_total.Goals as goal
 

@@ -1,7 +1,7 @@
 use Rattle.std.proofs.Common.{◌≡◌, ◌*◌, ◌≤◌, take, pos, nat_abs, ◌≤ℤ◌}
 use Rattle.market.specs.Amounts.{energy_payment, total}
 use Rattle.market.specs.Sides.{ladder_of}
-use Rattle.market.specs.Views.{interval_of}
+use Rattle.market.specs.Views.{interval_of, size_of}
 use Rattle.market.proofs.amounts.energy_payment_total.Given as goal
 
 abbrev pub invariant-loop-interval : goal.invariant-loop-interval

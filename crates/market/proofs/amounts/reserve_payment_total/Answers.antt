@@ -5,7 +5,7 @@ use Rattle.std.proofs.lemmas.List.Sums.{fold_more}
 use Rattle.market.specs.Amounts.{reserve_payment}
 use Rattle.ladders.specs.Offers.{reserve_rows}
 use Rattle.ladders.specs.Rows.{offer_ladder}
-use Rattle.market.specs.Views.{reserve_interval_of}
+use Rattle.market.specs.Views.{reserve_interval_of, size_of}
 use Rattle.market.proofs.Totals.{total_all}
 use Rattle.market.proofs.amounts.reserve_payment_total.Goals as goal
 

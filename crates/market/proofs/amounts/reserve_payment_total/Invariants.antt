@@ -2,7 +2,7 @@ use Rattle.std.proofs.Common.{◌≡◌, ◌*◌, ◌≤◌, take, pos, nat_abs,
 use Rattle.market.specs.Amounts.{reserve_payment, total}
 use Rattle.ladders.specs.Offers.{reserve_rows}
 use Rattle.ladders.specs.Rows.{offer_ladder}
-use Rattle.market.specs.Views.{reserve_interval_of}
+use Rattle.market.specs.Views.{reserve_interval_of, size_of}
 use Rattle.market.proofs.amounts.reserve_payment_total.Given as goal
 
 abbrev pub invariant-loop-interval : goal.invariant-loop-interval
