@@ -1,5 +1,5 @@
 pub mod Answering
-pub mod Filling
+pub mod Finding
 pub mod Holding
 pub mod Making
 pub mod Passing

@@ -5,6 +5,7 @@
 
 mod figures;
 mod intervals;
+mod places;
 mod reserve;
 mod rows;
 mod side;
@@ -12,11 +13,12 @@ mod zone;
 
 ghost use Rattle.blocks.specs.Records.{opened};
 ghost use Rattle.market.specs.Views.{position_of, virtual_position_of, zone_prices_of};
-ghost use Rattle.records.specs.Contents.{position_in, virtual_position_in, zone_prices_in};
+ghost use Rattle.records.specs.Contents.{position_at, position_in, virtual_position_at, virtual_position_in, zone_prices_at, zone_prices_in};
+ghost use Rattle.records.specs.Held.{PositionHeld, Reads, VirtualHeld, ZoneHeld};
 ghost use Rattle.std.specs.Option.{option_map};
 ghost use Rattle.std.specs.Prelude.{◌≡◌};
 
-use crate::figures::{price_at, quantity_at};
+use crate::figures::figure_at;
 use crate::intervals::intervals;
 use crate::reserve::reserve_of;
 use crate::side::{resource_side, virtual_trade};
@@ -29,20 +31,22 @@ use market::position::{Position, VirtualPosition, ZonePrices};
 pub fn position(block: &Record) -> Option<Position>
     ensures { option_map position_of result ≡ position_in (opened block.now) }
 {
-    let Kind::Resource = block.kind() else {
-        return None;
-    };
-    let side = resource_side(block)?;
-    let price = price_at(block, 2)?;
-    let quantity = quantity_at(block, 3)?;
-    let intervals = intervals(block)?;
-    let reserve = reserve_of(block)?;
+    match block.kind() {
+        Kind::Resource => position_at(block),
+        Kind::Header | Kind::Virtual => None,
+    }
+}
+
+/// The position that stands in a record, whatever its kind.
+fn position_at(block: &Record) -> Option<Position>
+    ensures { Reads position_of (PositionHeld (opened block.now)) (position_at (opened block.now).part) result }
+{
     Some(Position {
-        side,
-        price,
-        quantity,
-        intervals,
-        reserve,
+        side: resource_side(block)?,
+        price: figure_at(block, 2)?,
+        quantity: figure_at(block, 3)?,
+        intervals: intervals(block)?,
+        reserve: reserve_of(block)?,
     })
 }
 
@@ -50,25 +54,38 @@ pub fn position(block: &Record) -> Option<Position>
 pub fn virtual_position(block: &Record) -> Option<VirtualPosition>
     ensures { option_map virtual_position_of result ≡ virtual_position_in (opened block.now) }
 {
-    let Kind::Virtual = block.kind() else {
-        return None;
-    };
-    let trade = virtual_trade(block)?;
-    let quantity = quantity_at(block, 2)?;
-    Some(VirtualPosition { trade, quantity })
+    match block.kind() {
+        Kind::Virtual => virtual_position_at(block),
+        Kind::Header | Kind::Resource => None,
+    }
+}
+
+/// The virtual position that stands in a record, whatever its kind.
+fn virtual_position_at(block: &Record) -> Option<VirtualPosition>
+    ensures { Reads virtual_position_of (VirtualHeld (opened block.now)) (virtual_position_at (opened block.now).part) result }
+{
+    Some(VirtualPosition {
+        trade: virtual_trade(block)?,
+        quantity: figure_at(block, 2)?,
+    })
 }
 
 /// The prices of the zone that a header holds, where they are in range.
 pub fn zone_prices(block: &Record) -> Option<ZonePrices>
     ensures { option_map zone_prices_of result ≡ zone_prices_in (opened block.now) }
 {
-    let Kind::Header = block.kind() else {
-        return None;
-    };
-    let day_ahead = price_at(block, 2)?;
-    let real_time = real_time_prices(block)?;
+    match block.kind() {
+        Kind::Header => zone_prices_at(block),
+        Kind::Resource | Kind::Virtual => None,
+    }
+}
+
+/// The prices of the zone that stand in a record, whatever its kind.
+fn zone_prices_at(block: &Record) -> Option<ZonePrices>
+    ensures { Reads zone_prices_of (ZoneHeld (opened block.now)) (zone_prices_at (opened block.now).part) result }
+{
     Some(ZonePrices {
-        day_ahead,
-        real_time,
+        day_ahead: figure_at(block, 2)?,
+        real_time: real_time_prices(block)?,
     })
 }

@@ -5,18 +5,18 @@ ghost use Rattle.market.specs.Views.{reserve_class_of};
 ghost use Rattle.records.specs.Contents.{reserve_at};
 ghost use Rattle.records.specs.Held.{Reads, ReserveHolds};
 
-use crate::figures::{quantity_at, reserve_price_at};
+use crate::figures::figure_at;
 use crate::intervals::reserve_intervals;
-use crate::rows::reserve_offer;
+use crate::rows::ladder;
 use blocks::record::Record;
 use market::position::ReserveClass;
 
 pub(crate) fn reserve_of(block: &Record) -> Option<ReserveClass>
     ensures { Reads reserve_class_of (ReserveHolds (opened block.now)) (reserve_at (opened block.now).part) result }
 {
-    let price = reserve_price_at(block, 4)?;
-    let quantity = quantity_at(block, 5)?;
-    let offer = reserve_offer(block)?;
+    let price = figure_at(block, 4)?;
+    let quantity = figure_at(block, 5)?;
+    let offer = ladder(block)?;
     let intervals = reserve_intervals(block)?;
     Some(ReserveClass {
         price,

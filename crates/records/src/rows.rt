@@ -1,31 +1,52 @@
 //! The rows of a resource, and the ladders that they make.
 
-ghost use Rattle.std.specs.Prelude.{◌+◌, ◌*◌, ◌<◌, ◌≤◌, take, pos};
-ghost use Rattle.blocks.specs.Records.{opened};
-ghost use Rattle.blocks.specs.Verdicts.{energy_rows, reserve_rows, row_of, rows_from};
+ghost use Rattle.std.specs.Prelude.{◌≡◌, ◌+◌, ◌*◌, ◌<◌, pos};
 ghost use Rattle.blocks.specs.Words.{word_at};
-ghost use Rattle.ladders.specs.Offers.{bid_rows, offer_rows, reserve_rows as reserve_offer_rows};
-ghost use Rattle.ladders.specs.declared.rows.LadderKind.TheVariants.{Bid as bid_kind, Offer as offer_kind};
-ghost use Rattle.records.specs.Held.{Counts, Reads, ReserveRowsHold, RowsHold, Whole};
+ghost use Rattle.blocks.specs.Records.{opened};
+ghost use Rattle.blocks.specs.Verdicts.{row_of};
+ghost use Rattle.ladders.specs.Offers.{rows_of};
+ghost use Rattle.records.specs.Held.{Counts, Reads, RowsHold, Whole, place_of, rows_at};
 
+use crate::places::fill;
 use blocks::record::Record;
-use ladders::bid::Bid;
-use ladders::offer::{Offer, ReserveOffer};
-use ladders::rows::Row;
+use ladders::row_ladder::{RowKind, RowLadder};
+use ladders::rows::{LadderKind, Row};
 
-const NO_ROW: Row = Row { price: 0, end: 0 };
+/// Where the rows of a ladder stand: the word that counts them, the word that they begin at, and the most that there may be.
+#[derive(Clone, Copy)]
+pub(crate) struct RowPlace {
+    counted: usize,
+    from: usize,
+    most: usize,
+}
 
-/// How many rows a word tells, up to the most that there may be.
-pub(crate) fn row_count(block: &Record, i: usize, most: u8) -> Option<usize>
-    requires { i < 128 }
-    ensures { Reads (λ n. pos n) (Counts most (opened block.now) i) (word_at (opened block.now).part i) result }
-{
-    let count = block.word(i)?;
-    if 0 <= count && count <= i32::from(most) {
-        Some(count as usize)
-    } else {
-        None
+impl RowPlace {
+    /// Where the rows of a kind of ladder stand: those of energy from word 68 on, and those of reserve from word 108 on.
+    fn of(kind: LadderKind) -> RowPlace
+        ensures { result ≡ place_of kind }
+    {
+        match kind {
+            LadderKind::Offer | LadderKind::Bid => RowPlace {
+                counted: 6,
+                from: 68,
+                most: 20,
+            },
+            LadderKind::Reserve => RowPlace {
+                counted: 7,
+                from: 108,
+                most: 5,
+            },
+        }
     }
+}
+
+/// How many rows are counted, if there may be so many.
+fn row_count(block: &Record, place: RowPlace) -> Option<usize>
+    requires { place.counted < 128 }
+    ensures { Reads (λ count. pos count) (Counts place.most (opened block.now) place.counted) (word_at (opened block.now).part place.counted) result }
+{
+    let count = usize::try_from(block.word(place.counted)?).ok()?;
+    (count <= place.most).then_some(count)
 }
 
 /// A row, from its two words.
@@ -33,47 +54,20 @@ fn row_at(block: &Record, from: usize, k: usize) -> Option<Row>
     requires { from + 2 * k + 1 < 128 }
     ensures { Reads (λ row. row) (Whole (opened block.now)) (row_of (opened block.now).part from k) result }
 {
-    let price = block.word(from + 2 * k)?;
-    let end = block.word(from + 2 * k + 1)?;
-    Some(Row { price, end })
+    Some(Row {
+        price: block.word(from + 2 * k)?,
+        end: block.word(from + 2 * k + 1)?,
+    })
 }
 
-/// So many rows, in an array that has room for those of any ladder. The caller has seen that the part is whole: with no row to read,
-/// nothing here would tell.
-fn rows_from(block: &Record, from: usize, count: usize) -> Option<[Row; 20]>
-    requires { (Whole (opened block.now)) × ((count ≤ 20) × (from + 2 * count ≤ 128)) }
-    ensures { Reads (take count) (Whole (opened block.now)) (rows_from (opened block.now).part from count) result }
+/// The ladder that the rows of its kind make, where they are right.
+pub(crate) fn ladder<K: RowKind>(block: &Record) -> Option<RowLadder<K>>
+    ensures { Reads rows_of (RowsHold (place_of K.KIND) K.KIND (opened block.now)) (rows_at (place_of K.KIND) (opened block.now).part) result }
 {
-    let mut rows = [NO_ROW; 20];
-    for k in 0..count {
-        rows[k] = row_at(block, from, k)?;
-    }
-    Some(rows)
-}
-
-/// The energy rows, as an offer.
-pub(crate) fn energy_offer(block: &Record) -> Option<Offer>
-    ensures { Reads offer_rows (RowsHold 20 offer_kind (opened block.now)) (rows_from (opened block.now).part 68 (energy_rows (opened block.now).part)) result }
-{
-    let count = row_count(block, 6, 20)?;
-    let rows = rows_from(block, 68, count)?;
-    Offer::new(&rows[0..count]).ok()
-}
-
-/// The energy rows, as a bid.
-pub(crate) fn energy_bid(block: &Record) -> Option<Bid>
-    ensures { Reads bid_rows (RowsHold 20 bid_kind (opened block.now)) (rows_from (opened block.now).part 68 (energy_rows (opened block.now).part)) result }
-{
-    let count = row_count(block, 6, 20)?;
-    let rows = rows_from(block, 68, count)?;
-    Bid::new(&rows[0..count]).ok()
-}
-
-/// The reserve rows, as an offer of reserve.
-pub(crate) fn reserve_offer(block: &Record) -> Option<ReserveOffer>
-    ensures { Reads reserve_offer_rows (ReserveRowsHold (opened block.now)) (rows_from (opened block.now).part 108 (reserve_rows (opened block.now).part)) result }
-{
-    let count = row_count(block, 7, 5)?;
-    let rows = rows_from(block, 108, count)?;
-    ReserveOffer::new(&rows[0..count]).ok()
+    let place = RowPlace::of(K::KIND);
+    let count = row_count(block, place)?;
+    // A library has fixed memory: here is room for the rows of any ladder, and as many as were counted are read into it.
+    let mut rows = [Row { price: 0, end: 0 }; 20];
+    fill(&mut rows[..count], |k| row_at(block, place.from, k))?;
+    RowLadder::new(&rows[..count]).ok()
 }

@@ -5,7 +5,7 @@ ghost use Rattle.blocks.specs.Words.{byte_at};
 ghost use Rattle.records.specs.Contents.{trade_at};
 ghost use Rattle.records.specs.Held.{Reads, SideHolds, VirtualSideHolds, Whole, side_at, side_meaning};
 
-use crate::rows::{energy_bid, energy_offer, row_count};
+use crate::rows::ladder;
 use blocks::record::{BLOCK, Record};
 use market::side::Side;
 use market::trade::Trade;
@@ -14,11 +14,7 @@ fn side_letter(block: &Record) -> Option<char>
     ensures { Reads (λ letter. letter) (Whole (opened block.now)) (byte_at (opened block.now).part 1) result }
 {
     let part = block.part();
-    if part.len() == BLOCK {
-        Some(char::from(part[1]))
-    } else {
-        None
-    }
+    (part.len() == BLOCK).then(|| char::from(part[1]))
 }
 
 /// The side of a resource, with its energy ladder. A load without bids has no energy rows.
@@ -26,12 +22,9 @@ pub(crate) fn resource_side(block: &Record) -> Option<Side>
     ensures { Reads side_meaning (SideHolds (opened block.now)) (side_at (opened block.now).part) result }
 {
     match side_letter(block)? {
-        'G' => Some(Side::Generator(energy_offer(block)?)),
-        'L' => Some(Side::DispatchableLoad(energy_bid(block)?)),
-        'N' => {
-            row_count(block, 6, 0)?;
-            Some(Side::LoadWithoutBids)
-        }
+        'G' => Some(Side::Generator(ladder(block)?)),
+        'L' => Some(Side::DispatchableLoad(ladder(block)?)),
+        'N' if block.word(6)? == 0 => Some(Side::LoadWithoutBids),
         _ => None,
     }
 }

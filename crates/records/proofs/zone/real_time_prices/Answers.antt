@@ -1,29 +1,12 @@
-use Rattle.std.proofs.Common.{arith}
+use Rattle.std.proofs.Common.{rules}
 use Rattle.blocks.specs.Records.{opened}
-use Rattle.market.specs.Views.{cents_of}
+use Rattle.market.specs.Views.{value_of}
 use Rattle.records.specs.Contents.{zone_price_at}
 use Rattle.records.specs.Held.{ZonePriceHolds}
-use Rattle.records.proofs.Filling.{filled_all, filled_next, filled_one}
+use Rattle.records.proofs.Finding.{twelve_read}
 use Rattle.records.proofs.zone.real_time_prices.Goals as goal
-
-pub returns-in_err-first : goal.returns-in_err-first
-returns-in_err-first c = rw c.from_residual.ensures (λ all. c.in_err-first.ensures (all 0 (omega arith)))
-
-pub loop-t-init : goal.loop-t-init
-loop-t-init c =
-    let rec = opened c.args.block.now in
-    filled_one cents_of (zone_price_at rec.part) (ZonePriceHolds rec) c.in_ok-first.first c.in_ok-first.ensures
-
-pub returns-in_err-all : goal.returns-in_err-all
-returns-in_err-all c =
-    rw c.from_residual-in_err-all.ensures (λ all. c.in_err-all.ensures (all c.loop-t.t (omega arith)))
-
-pub loop-t-preserved : goal.loop-t-preserved
-loop-t-preserved c =
-    let rec = opened c.args.block.now in
-    filled_next cents_of (zone_price_at rec.part) (ZonePriceHolds rec) c.loop-t.all c.loop-t.t _ (omega arith) c.loop-t.invariant c.in_ok-all.ensures
 
 pub returns : goal.returns
 returns c =
     let rec = opened c.args.block.now in
-    filled_all cents_of (zone_price_at rec.part) (ZonePriceHolds rec) c.loop-t.all c.loop-t.t (omega arith) c.loop-t.invariant
+    twelve_read value_of (ZonePriceHolds rec) (zone_price_at rec.part) c.twelve.result c.twelve.ensures (λ t r h found. search rules)
