@@ -39,11 +39,11 @@ impl OpenDay {
         post(
             ledger,
             self.numbers.used,
-            new.hour,
+            new.hour.number,
             &new.places[0..places],
             &table,
         );
-        self.numbers = self.numbers.settled(new.hour);
+        self.numbers = self.numbers.settled(new.hour.number);
         Ok(places)
     }
 

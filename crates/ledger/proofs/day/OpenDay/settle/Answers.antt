@@ -83,7 +83,7 @@ post-requires g c =
       few = omega arith;
       room = omega arith;
       bounded = λ place line. omega (arith, part_bounded c.args.file.now n.owners c.places-places.result _ _ few count new s place line);
-      standing = λ place line l. omega (arith, table_bounded n ledger c.in_ok-table.table holds c.in_ok-table.ensures.tells.1 few new.hour place line s.from s.to (omega arith));
+      standing = λ place line l. omega (arith, table_bounded n ledger c.in_ok-table.table holds c.in_ok-table.ensures.tells.1 few new.hour.number place line s.from s.to (omega arith));
     }
 
 pub returns : goal.returns
@@ -102,12 +102,12 @@ returns g c =
     let long = part_length n.owners c.places-places.result few count new.places new.whole in
     let table = c.in_ok-table.table in
     let v = accepted_by_all n ledger file c.in_ok-table.ensures.verdict c.in_ok-new.ensures.verdict c.in_ok-check_room.ensures in
-    let posts = posted_is n ledger new.hour amounts part table s.from s.to few c.in_ok-table.ensures.tells.1
+    let posts = posted_is n ledger new.hour.number amounts part table s.from s.to few c.in_ok-table.ensures.tells.1
     (λ place line h. ap (λ x. line_of x line) (part_at n.owners c.places-places.result few count new.places new.whole place h) ∙ s.exact place line h) in
     let day : numbers (record { numbers = c.settled-self.result }) ≡ settled_day n (hour_of file) = c.settled-self.ensures ∙ ap (settled_day n) s.hour_is in
     let entries : c.post.new.ledger ≡ settled_ledger n ledger (hour_of file) amounts =
     c.post.ensures
-    ∙ ap (λ k. appended n.used (map (posted new.hour part table) (range_with_len 0 k)) ledger) long
+    ∙ ap (λ k. appended n.used (map (posted new.hour.number part table) (range_with_len 0 k)) ledger) long
     ∙ ap (λ xs. appended n.used xs ledger) posts
     ∙ ap (λ hour. settled_ledger n ledger hour amounts) s.hour_is in
     let from_is = s.hour_is in
