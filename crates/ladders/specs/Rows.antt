@@ -56,6 +56,10 @@ good kind rows row = good_after kind (row_before rows row) (row_at rows row)
 abbrev pub AllGood : LadderKind → List Row → Type 0
 AllGood kind rows = (row : ℕ) → row < length rows → good kind rows row ≡ true
 
+-- Rows make a ladder: there are not too many, and each is good where it stands.
+abbrev pub MakesLadder : LadderKind → List Row → Type 0
+MakesLadder kind rows = (length rows ≤ most_rows kind) × AllGood kind rows
+
 -- What is wrong with rows that make no ladder: there are too many, or which is the first bad one.
 abbrev pub FirstFault : LadderKind → List Row → LadderFault → Type 0
 FirstFault kind rows TooManyRows = most_rows kind < length rows

@@ -42,7 +42,8 @@ pub fn profit<L: Ladder>(ladder: &L, price: i32, quantity: u64) -> i64
     ensures law { ProfitLaw (L.means ladder.now) price }
     ensures bound { unsigned_abs result ≤ 40000000000 }
 {
-    // Two values run along, the profit and where the row starts: a `fold` of the pair would be no plainer.
+    // The trait gives its rows by number, and two values run along, the profit and where the row starts: a `fold` of the pair would be no
+    // plainer.
     let mut profit: i64 = 0;
     let mut from: u64 = 0;
     for row in 0..ladder.rows() {

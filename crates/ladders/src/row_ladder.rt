@@ -28,7 +28,7 @@ pub struct RowLadder<K: RowKind> {
     ghost good: { AllGood K.KIND (listed list) },
 }
 
-// By hand, since a derived `Clone` is refused beside a ghost field.
+// By hand, since the derive is refused on a generic struct with a ghost field.
 impl<K: RowKind> Clone for RowLadder<K> {
     ghost is_clone = { λ ladder copy. copy ≡ ladder };
 
@@ -56,7 +56,8 @@ impl<K: RowKind> RowLadder<K> {
 
     /// A row, if it is there. Its price is one that a ladder may have.
     fn row(&self, row: usize) -> Option<&Row>
-        ensures found { MatchOption result (length (rows_of self.now) ≤ row) (λ here. (row < length (rows_of self.now)) × (here.now ≡ row_at (rows_of self.now) row)) }
+        ensures there { MatchOption result (length (rows_of self.now) ≤ row) (λ _. row < length (rows_of self.now)) }
+        ensures found { IfSome result (λ here. here.now ≡ row_at (rows_of self.now) row) }
         ensures near { IfSome result (λ here. unsigned_abs here.now.price ≤ 200000) }
     {
         self.list.as_slice().get(row)

@@ -1,7 +1,7 @@
 //! Rows as a site writes them, and which of them make a ladder.
 
 ghost use Rattle.std.specs.Prelude.{◌≡◌, ℕ, ◌<◌, ◌≤◌, length, MatchOption, MatchResult, unsigned_abs};
-ghost use Rattle.ladders.specs.Rows.{AllGood, FirstFault, follows, gained, good_after, in_range, in_step, lowest_price, most_rows};
+ghost use Rattle.ladders.specs.Rows.{AllGood, FirstFault, MakesLadder, follows, gained, good_after, in_range, in_step, lowest_price, most_rows};
 ghost use Rattle.ladders.specs.declared.rows.LadderFault.TheVariants.{BadRow};
 
 use std::{fmt, iter};
@@ -128,7 +128,7 @@ impl LadderKind {
 
     /// Looks for the first fault of rows that are to make a ladder of this kind.
     pub fn check(self, rows: &[Row]) -> Result<(), LadderFault>
-        ensures { MatchResult result (λ _. (length rows.now ≤ most_rows self) × AllGood self rows.now) (FirstFault self rows.now) }
+        ensures { MatchResult result (λ _. MakesLadder self rows.now) (FirstFault self rows.now) }
     {
         if rows.len() > self.most_rows() {
             return Err(LadderFault::TooManyRows);
