@@ -19,8 +19,8 @@ rows_start Reserve = 108
 abbrev pub rows_in : Ladder → List ℕ → ℕ
 rows_in ladder part = unsigned_abs (word_at part (count_word ladder))
 
-abbrev pub row_in : Ladder → List ℕ → ℕ → Row
-row_in ladder part k = row_of part (rows_start ladder) k
+abbrev pub nth_row : Ladder → List ℕ → ℕ → Row
+nth_row ladder part k = row_of part (rows_start ladder) k
 
 abbrev pub end_in : Ladder → List ℕ → ℤ
 end_in ladder part = last_end part (rows_start ladder) (rows_in ladder part)

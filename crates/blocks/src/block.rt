@@ -23,10 +23,10 @@ pub const RECORD_WORDS: usize = 126;
 #[derive(Clone, Copy, Debug, PartialEq, Eq)]
 pub struct BlockRecord {
     pub head: [u8; 4],
-    pub words: [i32; 126],
+    pub words: [i32; RECORD_WORDS],
 }
 
-/// Writes words 1 to 126.
+/// Writes words 1 to 126. Each is written at its number: after a loop over `chunks_exact_mut` no proof knows what was written.
 fn put_words(part: &mut [u8; BLOCK], words: &[i32; RECORD_WORDS])
     ensures bytes { part.new ≡ (take 4 part.old ++ bytes_of words.now) ++ drop 508 part.old }
     ensures fit { AllByRecursion (FitsSigned w32) words.now }

@@ -46,16 +46,13 @@ impl Limits {
         ensures { result ≡ first owners following }
     {
         Limits {
-            headers: true,
             positions: false,
-            hour_from: 1,
-            hour_to: 24,
             owners_from: owners,
             owners_to: owners,
             places: owners,
             count_from: following,
             count_to: following,
-            number_from: 1,
+            ..Limits::alone()
         }
     }
 
@@ -65,15 +62,14 @@ impl Limits {
     {
         Limits {
             headers: false,
-            positions: true,
             hour_from: hour,
             hour_to: hour,
             owners_from: owners,
             owners_to: owners,
             places: owners,
-            count_from: 0,
             count_to: 0,
             number_from,
+            ..Limits::alone()
         }
     }
     /// Whether a block of this kind may stand here.

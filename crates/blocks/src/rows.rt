@@ -1,7 +1,7 @@
 //! The rows of a resource: two ladders, each with a word that counts its rows.
 
 ghost use Rattle.blocks.specs.Firsts.{unless};
-ghost use Rattle.blocks.specs.Ladders.{count_word, end_in, row_in, rows_in, rows_start};
+ghost use Rattle.blocks.specs.Ladders.{count_word, end_in, nth_row, rows_in, rows_start};
 ghost use Rattle.blocks.specs.Records.{body_opened, fault_at};
 ghost use Rattle.blocks.specs.Verdicts.{betweenZ, energy_kind, ladder_verdict, most_energy_rows, rows_from, rows_verdict};
 ghost use Rattle.blocks.specs.Words.{word_at};
@@ -40,7 +40,7 @@ fn most_energy_rows(side: char) -> u32
 
 /// A row of a ladder.
 fn row(part: &[u8; BLOCK], ladder: Ladder, k: u32) -> Row
-    ensures { result ≡ row_in ladder part.now k }
+    ensures { result ≡ nth_row ladder part.now k }
 {
     let at = ladder.rows_start() + 2 * k as usize;
     Row {
