@@ -1,5 +1,5 @@
 -- From the tallies of the places to the amounts of the hour.
-use Rattle.std.proofs.Common.{◌≡◌, ℕ, zero, suc, ◌*◌, ◌/◌, ◌<◌, ◌≤◌, ltb, List, length, get_or, take, ℤ, pos, negsuc, ◌-ℤ◌, nat_abs, sym, refl, ap, ◌∙◌, subst, ⊎_elim, mul_comm, arith, length-take, length-take-le, get_or-take}
+use Rattle.std.proofs.Common.{◌≡◌, ℕ, zero, suc, ◌*◌, ◌/◌, ◌<◌, ◌≤◌, ltb, List, length, get_or, take, ℤ, pos, negsuc, ◌-ℤ◌, nat_abs, sym, refl, ap, ◌∙◌, subst, ⊎_elim, mul_comm, arith, length-take, length-take-le, get_or-take, w64, to_z, of_z}
 use borrow.Author.Differences.{ints}
 use native.Mathlib.Nat.{div-le_of_le-mul}
 use Rattle.std.proofs.lemmas.Bool.{cases_lt, cond_both, cond-false, cond-true, le-ltb, lt-ltb, ltb-true}
@@ -12,7 +12,7 @@ use Rattle.hourfile.specs.declared.lines.Line.TheVariants.{DayAheadEnergy}
 use Rattle.hourfile.specs.declared.lines.Lines.{Lines}
 use Rattle.hourfile.specs.declared.tally.Tally.{Tally}
 use Rattle.hourfile.specs.Files.{blocks_in}
-use Rattle.hourfile.specs.Hours.{HourLaws, amount, line_cents, own_cents, pool_part, residual_pool, sum_below, uplift_pool, weight_at, withdrawn_at}
+use Rattle.hourfile.specs.Hours.{HourLaws, amount, line_cents, own_cents, pool_part, residual_pool, sum_below, trade_part, uplift_part, uplift_pool, weight_at, withdrawn_at}
 use Rattle.hourfile.specs.Lines.{line_of, no_lines}
 use Rattle.hourfile.specs.Tallies.{Tallied, grains_on, no_tally}
 use Rattle.hourfile.proofs.Laws.{Parts, cents_within, hour_laws, own_other, own_owner, residual_within, uplift_within}
@@ -71,6 +71,17 @@ module _ (file : List ℕ) (owners : ℕ) (few : owners ≤ 32) (blocks : blocks
         residual = residual_within file owners few blocks tallied.bounds;
         laws = hour_laws file owners few blocks tallied.bounds;
       }
+
+-- what the code strikes is the pools
+module _ (file : List ℕ) (owners : ℕ) (tallies : List Tally) (places : List Lines) (o : Own file owners tallies places) (r : ℤ) where
+  pub uplift_struck : r ≡ sum_below (λ place. uplift_part (line_of (get_or (take owners places) place no_lines))) (length (take owners places)) → to_z w64 (of_z w64 r) ≡ uplift_pool file owners
+  unfolding uplift_pool
+  uplift_struck is = let small = o.uplift in let same = o.gathered uplift_part in omega (arith, ints)
+
+  pub residual_struck : r ≡ sum_below (λ place. trade_part (line_of (get_or (take owners places) place no_lines))) (length (take owners places))
+      → to_z w64 (of_z w64 (pos 0 -ℤ to_z w64 (of_z w64 r))) ≡ residual_pool file owners
+  unfolding residual_pool
+  residual_struck is = let small = o.residual in let same = o.gathered trade_part in omega (arith, ints)
 
 -- ---- the shares of a pool
 part_size : (pool : ℤ) (m n size : ℕ) → m ≤ size → n ≤ size → nat_abs (signed_as pool m -ℤ signed_as pool n) ≤ size

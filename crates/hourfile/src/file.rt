@@ -105,8 +105,7 @@ pub fn check_file(file: &[u8], owners: u32) -> Result<(), FileFault>
     ensures first { FirstBlockDecides file.now owners result }
 {
     let file = HourFile::new(file, owners)?;
-    // By number, since the number is part of a fault and leads to the block before, which sets the limits: over `chunks_exact` with
-    // `enumerate` the number would be used just so.
+    // By number: a fault tells it, and the limits are read from the block before, so `chunks_exact` with `enumerate` is no plainer.
     for block in 0..file.blocks() {
         file.open(block)?;
     }

@@ -80,13 +80,12 @@ fn shared<B: Basis>(amount: i64, basis: &B, withdrawn: &Withdrawals) -> Shares
 fn add_parts(places: &mut [Lines; 33], owners: Owners, uplift: &Shares, residual: &Shares)
     requires small { (place : ℕ) → unsigned_abs (slice_index_or uplift.now.owners place (pos 0)) ≤ 14000000000 }
     requires operated { unsigned_abs uplift.now.operator ≤ 14000000000 }
-    ensures whole { length places.new ≡ 33 }
     ensures owned { (place : ℕ) (line : Line) → place < owners.number → line_of (slice_index_or places.new place no_lines) line ≡ shared_line (line_of (slice_index_or places.old place no_lines)) (slice_index_or uplift.now.owners place (pos 0)) (slice_index_or residual.now.owners place (pos 0)) line }
     ensures operator { (line : Line) → line_of (slice_index_or places.new owners.number no_lines) line ≡ shared_line (line_of (slice_index_or places.old owners.number no_lines)) uplift.now.operator residual.now.operator line }
     ensures others { (place : ℕ) → owners.number < place → slice_index_or places.new place no_lines ≡ slice_index_or places.old place no_lines }
 {
     let count = owners.number as usize;
-    // Not over `iter_mut().zip(..)`: what a loop writes through it is not known to the proof after the loop.
+    // With `iter_mut().zip(..)` the proof did not close: after the loop it knows nothing of what was written.
     for (place, lines) in places[..count].iter_mut().enumerate() {
         *lines = lines.with_parts(uplift.owners[place], residual.owners[place]);
     }

@@ -1,5 +1,4 @@
-use Rattle.std.proofs.Common.{◌≡◌, ◌<◌, ◌≤◌, pos, ◌-ℤ◌, ap, ◌∙◌, ⊎_elim, arith, w64, to_z, of_z}
-use borrow.Author.Differences.{ints}
+use Rattle.std.proofs.Common.{◌≡◌, ◌<◌, ◌≤◌, ap, ◌∙◌, ⊎_elim, arith}
 use Rattle.std.proofs.lemmas.Bool.{cases_lt}
 use Rattle.pools.specs.Sharing.{Shared}
 use Rattle.hourfile.specs.declared.lines.Line.TheVariants.{DayAheadEnergy, Balancing, Virtual, Reserve, DayAheadMakeWhole, RealTimeMakeWhole}
@@ -7,9 +6,9 @@ use Rattle.hourfile.specs.Hours.{amount, residual_pool, trade_part, uplift_part,
 use Rattle.hourfile.specs.Lines.{line_of}
 use Rattle.hourfile.proofs.Laws.{own_other}
 use Rattle.hourfile.proofs.Setting.{parts_same}
-use Rattle.hourfile.proofs.Settling.{Own, operator_is, operator_small, own, parts, restated, share_is, share_small}
+use Rattle.hourfile.proofs.Settling.{Own, operator_is, operator_small, own, parts, residual_struck, restated, share_is, share_small, uplift_struck}
 use Rattle.hourfile.proofs.hour.settle.Goals as goal
-use Rattle.hourfile.proofs.hour.settle.Goals.{After-own_lines-places, After-total-uplift_pool, After-total-residual_pool, After-shared-uplift_shares, After-shared-residual_shares}
+use Rattle.hourfile.proofs.hour.settle.Goals.{After-own_lines-places, After-shared-residual_shares}
 
 own_here : (g : _) (c : After-own_lines-places g) → Own c.args.file.now c.args.owners.number c.in_ok-tallies.tallies c.own_lines-places.result
 own_here g c =
@@ -26,60 +25,34 @@ total-residual_pool-requires-clause-callable g c place h =
     let small = (own_here g (goal.at.total-residual_pool-requires-clause-callable g c).After-own_lines-places).small place h in
     (small DayAheadEnergy, (small Balancing, small Virtual))
 
--- ---- what is struck is the pool, and what is shared out are its shares
-uplift_struck : (g : _) (c : After-total-uplift_pool g) → Own c.args.file.now c.args.owners.number c.in_ok-tallies.tallies c.own_lines-places.result
-    → to_z w64 (of_z w64 c.total-uplift_pool.result) ≡ uplift_pool c.args.file.now c.args.owners.number
-unfolding uplift_pool
-uplift_struck g c o =
-    let is = c.total-uplift_pool.ensures.exact (λ lines. uplift_part (line_of lines)) (λ lines z post. post.1.0) ∙ o.gathered uplift_part in
-    let small = o.uplift in
-    omega (arith, ints)
-
-residual_struck : (g : _) (c : After-total-residual_pool g) → Own c.args.file.now c.args.owners.number c.in_ok-tallies.tallies c.own_lines-places.result
-    → to_z w64 (of_z w64 (pos 0 -ℤ to_z w64 (of_z w64 c.total-residual_pool.result))) ≡ residual_pool c.args.file.now c.args.owners.number
-unfolding residual_pool
-residual_struck g c o =
-    let is = c.total-residual_pool.ensures.exact (λ lines. trade_part (line_of lines)) (λ lines z post. post.1.0) ∙ o.gathered trade_part in
-    let small = o.residual in
-    omega (arith, ints)
-
+-- ---- what is struck are the pools, and what is shared out are their shares
 pub shared-uplift_shares-requires : goal.shared-uplift_shares-requires
 shared-uplift_shares-requires g c =
-    let at = goal.at.shared-uplift_shares-requires g c in
-    let o = own_here g at.After-own_lines-places in
-    rw (uplift_struck g at.After-total-uplift_pool o) o.uplift
+    let o = own_here g (goal.at.shared-uplift_shares-requires g c).After-own_lines-places in
+    rw (uplift_struck _ _ _ _ o _ (c.total-uplift_pool.ensures.exact (λ lines. uplift_part (line_of lines)) (λ lines z post. post.1.0))) o.uplift
 
 pub shared-residual_shares-requires : goal.shared-residual_shares-requires
 shared-residual_shares-requires g c =
-    let at = goal.at.shared-residual_shares-requires g c in
-    let o = own_here g at.After-own_lines-places in
-    rw (residual_struck g at.After-total-residual_pool o) o.residual
+    let o = own_here g (goal.at.shared-residual_shares-requires g c).After-own_lines-places in
+    rw (residual_struck _ _ _ _ o _ (c.total-residual_pool.ensures.exact (λ lines. trade_part (line_of lines)) (λ lines z post. post.1.0))) o.residual
 
-uplift_shared : (g : _) (c : After-shared-uplift_shares g) → Own c.args.file.now c.args.owners.number c.in_ok-tallies.tallies c.own_lines-places.result
-    → to_z w64 (of_z w64 c.total-uplift_pool.result) ≡ uplift_pool c.args.file.now c.args.owners.number
+shares_here : (g : _) (c : After-shared-residual_shares g) → Own c.args.file.now c.args.owners.number c.in_ok-tallies.tallies c.own_lines-places.result
     → Shared (uplift_pool c.args.file.now c.args.owners.number) (weight_at (g.U.Basis.weighs c.args.uplift.now) c.args.file.now) c.args.owners.number c.shared-uplift_shares.result.owners c.shared-uplift_shares.result.operator
-uplift_shared g c o struck =
+    × Shared (residual_pool c.args.file.now c.args.owners.number) (weight_at (g.R.Basis.weighs c.args.residual.now) c.args.file.now) c.args.owners.number c.shared-residual_shares.result.owners c.shared-residual_shares.result.operator
+shares_here g c o =
     let w = c.withdrawals-withdrawn in
-    restated _ _ _ _ _ _ _ _ (o.weighs (g.U.Basis.weighs c.args.uplift.now) w.result.quantities w.ensures.quantities) struck w.ensures.count c.shared-uplift_shares.ensures
+    let uplift = uplift_struck _ _ _ _ o _ (c.total-uplift_pool.ensures.exact (λ lines. uplift_part (line_of lines)) (λ lines z post. post.1.0)) in
+    let residual = residual_struck _ _ _ _ o _ (c.total-residual_pool.ensures.exact (λ lines. trade_part (line_of lines)) (λ lines z post. post.1.0)) in (
+      restated _ _ _ _ _ _ _ _ (o.weighs (g.U.Basis.weighs c.args.uplift.now) w.result.quantities w.ensures.quantities) uplift w.ensures.count c.shared-uplift_shares.ensures,
+      restated _ _ _ _ _ _ _ _ (o.weighs (g.R.Basis.weighs c.args.residual.now) w.result.quantities w.ensures.quantities) residual w.ensures.count c.shared-residual_shares.ensures,
+    )
 
-residual_shared : (g : _) (c : After-shared-residual_shares g) → Own c.args.file.now c.args.owners.number c.in_ok-tallies.tallies c.own_lines-places.result
-    → to_z w64 (of_z w64 (pos 0 -ℤ to_z w64 (of_z w64 c.total-residual_pool.result))) ≡ residual_pool c.args.file.now c.args.owners.number
-    → Shared (residual_pool c.args.file.now c.args.owners.number) (weight_at (g.R.Basis.weighs c.args.residual.now) c.args.file.now) c.args.owners.number c.shared-residual_shares.result.owners c.shared-residual_shares.result.operator
-residual_shared g c o struck =
-    let w = c.withdrawals-withdrawn in
-    restated _ _ _ _ _ _ _ _ (o.weighs (g.R.Basis.weighs c.args.residual.now) w.result.quantities w.ensures.quantities) struck w.ensures.count c.shared-residual_shares.ensures
-
-pub add_parts-requires-clause-small : goal.add_parts-requires-clause-small
-add_parts-requires-clause-small g c =
-    let at = goal.at.add_parts-requires-clause-small g c in
+pub add_parts-requires : goal.add_parts-requires
+add_parts-requires g c =
+    let at = goal.at.add_parts-requires g c in
     let o = own_here g at.After-own_lines-places in
-    share_small _ _ _ _ _ (uplift_shared g at.After-shared-uplift_shares o (uplift_struck g at.After-total-uplift_pool o)) o.uplift
-
-pub add_parts-requires-clause-operated : goal.add_parts-requires-clause-operated
-add_parts-requires-clause-operated g c =
-    let at = goal.at.add_parts-requires-clause-operated g c in
-    let o = own_here g at.After-own_lines-places in
-    operator_small _ _ _ _ _ (uplift_shared g at.After-shared-uplift_shares o (uplift_struck g at.After-total-uplift_pool o)) o.uplift
+    let up = (shares_here g at.After-shared-residual_shares o).0 in
+    record { small = share_small _ _ _ _ _ up o.uplift; operated = operator_small _ _ _ _ _ up o.uplift }
 
 pub returns-clause-settles : goal.returns-clause-settles
 unfolding amount
@@ -89,8 +62,9 @@ returns-clause-settles g c =
     let owners = c.args.owners.number in
     let t = c.in_ok-tallies.ensures in
     let o = own_here g at.After-own_lines-places in
-    let up = uplift_shared g at.After-shared-uplift_shares o (uplift_struck g at.After-total-uplift_pool o) in
-    let back = residual_shared g at.After-shared-residual_shares o (residual_struck g at.After-total-residual_pool o) in
+    let shares = shares_here g at.After-shared-residual_shares o in
+    let up = shares.0 in
+    let back = shares.1 in
     let parted = c.add_parts.ensures in
     let hour = c.from.ensures in
     record {
