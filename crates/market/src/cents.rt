@@ -3,19 +3,15 @@
 ghost use Rattle.market.specs.Cents.{Rounding, nearest_cent};
 ghost use Rattle.std.specs.Prelude.{◌≡◌};
 
-const GRAINS_PER_CENT: u64 = 12_000;
+const GRAINS_PER_CENT: i64 = 12_000;
 
-const HALF_A_CENT: u64 = 6_000;
+const HALF_A_CENT: i64 = 6_000;
 
 /// The nearest whole number of cents; exact halves go away from zero.
 pub fn to_cents(grains: i64) -> i64
     ensures value { result ≡ nearest_cent grains }
     ensures law { Rounding grains result }
 {
-    let cents = (grains.unsigned_abs() + HALF_A_CENT) / GRAINS_PER_CENT;
-    if grains < 0 {
-        -(cents as i64)
-    } else {
-        cents as i64
-    }
+    // both divisions go toward zero, so a rest of half a cent or more counts as one more cent away from zero
+    grains / GRAINS_PER_CENT + grains % GRAINS_PER_CENT / HALF_A_CENT
 }

@@ -1,6 +1,6 @@
 //! Figures that carry their range in their type.
 
-ghost use Rattle.std.specs.Prelude.{◌≤ℤ◌};
+ghost use Rattle.std.specs.Prelude.{◌≡◌, ◌≤ℤ◌, ⊤};
 ghost use Rattle.market.specs.Figures.{Taken, highest, lowest};
 ghost use Rattle.market.specs.declared.range.Figure.{Figure};
 ghost use Rattle.market.specs.declared.range.Figure.TheVariants.{Price as price_figure, Quantity as quantity_figure, Reading as reading_figure, ReservePrice as reserve_price_figure};
@@ -17,8 +17,7 @@ pub trait FigureKind: Copy {
 }
 
 /// A number in the range of its kind of figure.
-#[derive(Debug, PartialEq, Eq)]
-#[derive_where(Copy)]
+#[derive_where(Copy, Debug, PartialEq, Eq)]
 pub struct Ranged<K: FigureKind> {
     pub value: i32,
     pub of: PhantomData<K>,
@@ -39,6 +38,10 @@ pub type Quantity = Ranged<QuantityKind>;
 pub type Reading = Ranged<ReadingKind>;
 
 impl<K: FigureKind> Clone for Ranged<K> {
+    ghost is_clone = { λ figure copy. copy ≡ figure };
+
+    ghost is_infallible = { λ _. ⊤ };
+
     fn clone(&self) -> Result<Self, AllocError> {
         Ok(*self)
     }

@@ -24,22 +24,24 @@ pub struct OutOfRange {
 
 impl fmt::Display for Figure {
     fn fmt<W: fmt::Write>(&self, f: &mut fmt::Formatter<W>) -> fmt::Result {
-        match self {
-            Figure::Price => f.write_str("price"),
-            Figure::ReservePrice => f.write_str("reserve price"),
-            Figure::Quantity => f.write_str("quantity"),
-            Figure::Reading => f.write_str("reading"),
-        }
+        f.write_str(match self {
+            Figure::Price => "price",
+            Figure::ReservePrice => "reserve price",
+            Figure::Quantity => "quantity",
+            Figure::Reading => "reading",
+        })
     }
 }
 
 impl fmt::Display for OutOfRange {
     fn fmt<W: fmt::Write>(&self, f: &mut fmt::Formatter<W>) -> fmt::Result {
-        let figure = self.figure;
-        let value = self.value;
-        let lowest = figure.lowest();
-        let highest = figure.highest();
-        write!(f, "{figure} {value} is outside {lowest} to {highest}")
+        let OutOfRange { figure, value } = *self;
+        write!(
+            f,
+            "{figure} {value} is outside {} to {}",
+            figure.lowest(),
+            figure.highest()
+        )
     }
 }
 

@@ -1,25 +1,24 @@
 //! Which way a position trades.
 
-ghost use Rattle.std.specs.Prelude.{◌≡◌, ◌≤◌, ◌*ℤ◌, unsigned_abs};
+ghost use Rattle.std.specs.Prelude.{◌≡◌, ◌≤◌, unsigned_abs};
 ghost use Rattle.market.specs.Trades.{sign};
 
 /// A sale is paid what a purchase pays.
-#[derive(Clone, Copy)]
+#[derive(Clone, Copy, Debug, PartialEq, Eq)]
 pub enum Trade {
     Sale,
     Purchase,
 }
 
 impl Trade {
-    /// An amount, as this trade sees it.
-    pub(crate) fn signed(self, grains: i64) -> i64
-        requires { unsigned_abs grains ≤ 1000000000000 }
-        ensures value { result ≡ sign self *ℤ grains }
-        ensures bound { unsigned_abs result ≤ unsigned_abs grains }
+    /// What an amount is multiplied by where this trade sees it.
+    pub(crate) fn sign(self) -> i32
+        ensures value { result ≡ sign self }
+        ensures bound { unsigned_abs result ≤ 1 }
     {
         match self {
-            Trade::Sale => grains,
-            Trade::Purchase => -grains,
+            Trade::Sale => 1,
+            Trade::Purchase => -1,
         }
     }
 }
