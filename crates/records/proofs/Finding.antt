@@ -1,9 +1,9 @@
 -- What stands at places that were read.
-use Rattle.std.proofs.Common.{◌≡◌, ℕ, zero, suc, ◌+◌, ◌<◌, List, [], ◌∷◌, ◌++◌, map, length, get_or, MatchOption, Some, None, Option, ap, ◌∙◌, add-one, arith}
+use Rattle.std.proofs.Common.{◌≡◌, ℕ, zero, suc, ◌+◌, ◌<◌, List, [], ◌∷◌, ◌++◌, map, get_or, MatchOption, Some, None, Option, ap, ◌∙◌, add-one, arith}
 use Rattle.std.specs.List.{range_with_len}
 use Rattle.std.proofs.lemmas.List.{append-nil, get_or-map, length-map}
 use Rattle.std.proofs.lemmas.List.FromFn.{fill_by_all}
-use Rattle.records.specs.Held.{AllFound, AllIntervals, Missed, Reads, ReadsTwelve}
+use Rattle.records.specs.Held.{AllFound, Missed, Reads, ReadsTwelve}
 
 -- The first place and the later ones. `&mut all[..]`, of which the later places are taken, reads as `first ∷ (later ++ [])` afterwards.
 module _ {A : Type 0} (Finds : ℕ → Option A → Type 0) (first : A) (later : List A) (count : ℕ) (here : Finds 0 (Some first)) (found : AllFound (λ t. Finds (t + 1)) count later) where
@@ -24,7 +24,7 @@ module _ {A B : Type 0} {Finds : ℕ → Option A → Type 0} (meaning : A → B
       let at : (t : ℕ) → t < count → Held t × (meaning (get_or (x ∷ xs) t x) ≡ value_at t) = λ t h. each t (Some (get_or (x ∷ xs) t x)) h (found.each t x h) in (
         λ t h. (at t h).0,
         fill_by_all value_at (map meaning (x ∷ xs)) count (meaning x) (length-map (x ∷ xs) meaning ∙ found.long)
-        (λ t h. get_or-map meaning (x ∷ xs) t x (meaning x) (omega (arith, found.long)) ∙ (at t h).1),
+            (λ t h. get_or-map meaning (x ∷ xs) t x (meaning x) (omega (arith, found.long)) ∙ (at t h).1),
       )
 
   pub none_read : Missed Finds count → ((t : ℕ) (r : Option A) → t < count → Finds t r → Reads meaning (Held t) (value_at t) r)

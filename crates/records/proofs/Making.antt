@@ -12,7 +12,6 @@ use Rattle.ladders.specs.Rows.{AllGood, FirstFault, Made, good, most_rows}
 use Rattle.ladders.specs.declared.rows.LadderFault.{LadderFault}
 use Rattle.ladders.specs.declared.rows.LadderFault.TheVariants.{TooManyRows, BadRow}
 use Rattle.ladders.specs.declared.rows.LadderKind.{LadderKind}
-use Rattle.ladders.specs.declared.rows.LadderKind.TheVariants.{Bid, Offer, Reserve}
 use Rattle.ladders.specs.declared.rows.Row.{Row}
 use Rattle.records.specs.Held.{AllFound, Counts, Reads, RowsHold, Whole, place_of, rows_at}
 use Rattle.records.specs.declared.rows.RowPlace.{RowPlace}
@@ -24,9 +23,7 @@ no_fault kind rows TooManyRows few all first = omega arith
 no_fault kind rows (BadRow row) few all first = both_ways (good kind rows row) first.2 (all row first.1)
 
 most_fit : (kind : LadderKind) → ((place_of kind).most ≤ most_rows kind) × ((place_of kind).most ≤ 20)
-most_fit Offer = (omega arith, omega arith)
-most_fit Bid = (omega arith, omega arith)
-most_fit Reserve = (omega arith, omega arith)
+most_fit kind = grind arith
 
 module _ {A : Type 0} (rows_of : A → List Row) (kind : LadderKind) where
   made_reads : (rows : List Row) (Counted : Type 0) (made : Result A LadderFault) → length rows ≤ most_rows kind → Counted → Made rows_of kind rows made

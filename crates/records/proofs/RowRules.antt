@@ -1,54 +1,46 @@
 -- Rows that are right: as the verdict has it, and as the making of a ladder has it.
-use Rattle.std.proofs.Common.{◌≡◌, ℕ, Bool, true, not, length, ℤ, pos, is_ok, nat_abs, arith}
+use Rattle.std.proofs.Common.{◌≡◌, Bool, true, not, List, length, is_ok, nat_abs, arith}
 use borrow.Author.Differences.{ints}
-use lib.Signed.{le_z}
-use Rattle.std.proofs.lemmas.Bool.{and_from, and_parts, not-false, not_from_true}
+use Rattle.std.proofs.lemmas.Bool.{not-false, not_from_true}
 use Rattle.blocks.specs.Firsts.{unless}
 use Rattle.blocks.specs.Records.{Opened, fault_at}
 use Rattle.blocks.specs.Verdicts.{betweenZ, energy_kind, ladder_verdict, most_energy_rows, resource_rows_verdict}
 use Rattle.blocks.specs.Words.{byte_at, word_at}
-use Rattle.blocks.specs.declared.fault.BlockFault.{BlockFault}
 use Rattle.blocks.specs.declared.fault.Rule.TheVariants as rules
 use Rattle.ladders.specs.Rows.{good}
 use Rattle.ladders.specs.declared.rows.LadderKind.{LadderKind}
 use Rattle.ladders.specs.declared.rows.LadderKind.TheVariants.{Reserve}
-use Rattle.records.specs.Held.{Counts, RowsHold, Whole, energy_place, place_of, rows_at}
+use Rattle.ladders.specs.declared.rows.Row.{Row}
+use Rattle.records.specs.Held.{RowsHold, Whole, energy_place, place_of, rows_at}
 use Rattle.records.specs.declared.rows.RowPlace.{RowPlace}
-use Rattle.records.proofs.Passing.{both_pass, none_passes, pass_both, passed_none, test_holds, test_passes}
+use Rattle.records.proofs.Passing.{both_pass, pass_both, search_decides, test_holds, test_passes}
 
 module _ (rec : Opened) where
   -- ---- the rows at one place
   module _ (place : RowPlace) (kind : LadderKind) where
-    abbrev count_verdict : Bool
-    count_verdict = betweenZ 0 place.most (word_at rec.part place.counted)
+    abbrev counts : Bool
+    counts = betweenZ 0 place.most (word_at rec.part place.counted)
 
-    abbrev bad : ℕ → Bool
-    bad k = not (good kind (rows_at place rec.part) k)
+    abbrev rows : List Row
+    rows = rows_at place rec.part
 
     abbrev RowsPass : Type 0
     RowsPass =
-        (is_ok (unless count_verdict (fault_at rules.Rows rec.block place.counted)) ≡ true)
+        (is_ok (unless counts (fault_at rules.Rows rec.block place.counted)) ≡ true)
         × (is_ok (ladder_verdict kind rec.part rec.block place.from (nat_abs (word_at rec.part place.counted))) ≡ true)
 
     place_held : Whole rec → RowsPass → RowsHold place kind rec
     place_held whole passed =
-        let counts = test_holds count_verdict _ passed.0 in
-        let parts = and_parts (le_z (pos 0) (word_at rec.part place.counted)) _ counts in
-        let low = parts.0 in
-        let high = parts.1 in (
-          (whole, grind (arith, ints), grind (arith, ints)),
-          λ k h. not-false (good kind (rows_at place rec.part) k) (passed_none bad 0 (length (rows_at place rec.part)) _ passed.1 k (omega arith) h),
-        )
+        let counted = test_holds counts _ passed.0 in
+        let none_bad = (search_decides (λ k. not (good kind rows k)) 0 (length rows) _).0 passed.1 in
+        ((whole, grind (arith, ints), grind (arith, ints)), λ k h. not-false (good kind rows k) (none_bad k (omega arith) h))
 
     place_passes : RowsHold place kind rec → RowsPass
     place_passes held =
         let low = held.0.1 in
         let high = held.0.2 in (
-          test_passes count_verdict _
-          (and_from (le_z (pos 0) (word_at rec.part place.counted)) (le_z (word_at rec.part place.counted) (pos place.most))
-          (grind (arith, ints))
-          (grind (arith, ints))),
-          none_passes bad 0 (length (rows_at place rec.part)) _ (λ k low high. not_from_true (good kind (rows_at place rec.part) k) (held.1 k high)),
+          test_passes counts _ (grind (arith, ints)),
+          (search_decides (λ k. not (good kind rows k)) 0 (length rows) _).1 (λ k low high. not_from_true (good kind rows k) (held.1 k high)),
         )
 
   -- ---- the energy rows and the reserve rows

@@ -1,5 +1,5 @@
 -- What the reading of a part of a record answers.
-use Rattle.std.specs.Prelude.{◌≡◌, ℕ, ◌+◌, ◌*◌, ◌<◌, true, List, map, length, ℤ, pos, ◌≤ℤ◌, Some, None, Option, slice_index_or, unsigned_abs}
+use Rattle.std.specs.Prelude.{◌≡◌, ℕ, ◌+◌, ◌*◌, ◌<◌, true, List, map, length, pos, ◌≤ℤ◌, Some, None, Option, slice_index_or, unsigned_abs}
 use Rattle.std.specs.List.{range_with_len}
 use Rattle.blocks.specs.Kinds.{side_fits}
 use Rattle.blocks.specs.Records.{Opened}

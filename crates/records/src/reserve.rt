@@ -14,14 +14,10 @@ use market::position::ReserveClass;
 pub(crate) fn reserve_of(block: &Record) -> Option<ReserveClass>
     ensures { Reads reserve_class_of (ReserveHolds (opened block.now)) (reserve_at (opened block.now).part) result }
 {
-    let price = figure_at(block, 4)?;
-    let quantity = figure_at(block, 5)?;
-    let offer = ladder(block)?;
-    let intervals = reserve_intervals(block)?;
     Some(ReserveClass {
-        price,
-        quantity,
-        offer,
-        intervals,
+        price: figure_at(block, 4)?,
+        quantity: figure_at(block, 5)?,
+        offer: ladder(block)?,
+        intervals: reserve_intervals(block)?,
     })
 }

@@ -15,27 +15,32 @@ use ladders::rows::{LadderKind, Row};
 /// Where the rows of a ladder stand: the word that counts them, the word that they begin at, and the most that there may be.
 #[derive(Clone, Copy)]
 pub(crate) struct RowPlace {
-    counted: usize,
+    pub(crate) counted: usize,
     from: usize,
     most: usize,
 }
 
+/// Where the energy rows stand.
+pub(crate) const ENERGY: RowPlace = RowPlace {
+    counted: 6,
+    from: 68,
+    most: 20,
+};
+
+/// Where the reserve rows stand.
+const RESERVE: RowPlace = RowPlace {
+    counted: 7,
+    from: 108,
+    most: 5,
+};
+
 impl RowPlace {
-    /// Where the rows of a kind of ladder stand: those of energy from word 68 on, and those of reserve from word 108 on.
     fn of(kind: LadderKind) -> RowPlace
         ensures { result ≡ place_of kind }
     {
         match kind {
-            LadderKind::Offer | LadderKind::Bid => RowPlace {
-                counted: 6,
-                from: 68,
-                most: 20,
-            },
-            LadderKind::Reserve => RowPlace {
-                counted: 7,
-                from: 108,
-                most: 5,
-            },
+            LadderKind::Offer | LadderKind::Bid => ENERGY,
+            LadderKind::Reserve => RESERVE,
         }
     }
 }

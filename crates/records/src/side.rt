@@ -5,7 +5,7 @@ ghost use Rattle.blocks.specs.Words.{byte_at};
 ghost use Rattle.records.specs.Contents.{trade_at};
 ghost use Rattle.records.specs.Held.{Reads, SideHolds, VirtualSideHolds, Whole, side_at, side_meaning};
 
-use crate::rows::ladder;
+use crate::rows::{ENERGY, ladder};
 use blocks::record::{BLOCK, Record};
 use market::side::Side;
 use market::trade::Trade;
@@ -24,7 +24,7 @@ pub(crate) fn resource_side(block: &Record) -> Option<Side>
     match side_letter(block)? {
         'G' => Some(Side::Generator(ladder(block)?)),
         'L' => Some(Side::DispatchableLoad(ladder(block)?)),
-        'N' if block.word(6)? == 0 => Some(Side::LoadWithoutBids),
+        'N' if block.word(ENERGY.counted)? == 0 => Some(Side::LoadWithoutBids),
         _ => None,
     }
 }
