@@ -3,7 +3,7 @@
 use hourfile::lines::Lines;
 
 /// What one call added to the lines of a place in an hour, in cents.
-#[derive(Clone, Copy)]
+#[derive(Clone, Copy, Debug, PartialEq, Eq)]
 pub struct Entry {
     pub hour: u32,
     pub place: u32,
