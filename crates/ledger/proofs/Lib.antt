@@ -1,11 +1,12 @@
 pub mod Appending
-pub mod Every
-pub mod Fitting
 pub mod Gathering
 pub mod Holding
 pub mod Lined
 pub mod Mask
+pub mod Options
+pub mod Placing
 pub mod Posted
+pub mod Ranges
 pub mod Refusing
 pub mod Settled
 pub mod Standing

@@ -1,8 +1,8 @@
--- The verdict of a settling, from those of the ledger, the file and the room.
-use Rattle.std.proofs.Common.{◌≡◌, ℕ, ◌+◌, ◌≤◌, true, leb, List, is_ok, Ok, Err, sym, ap}
+-- The verdict of a settling, from those of the ledger, the file and the room, and what these say where they find no fault.
+use Rattle.std.proofs.Common.{◌≡◌, ℕ, ◌+◌, ◌≤◌, Bool, true, false, leb, List, Ok, Err, refl}
 use Rattle.std.proofs.lemmas.Bool.{leb-true}
+use Rattle.blocks.specs.Firsts.{unless}
 use Rattle.blocks.specs.declared.fault.FileFault.{FileFault}
-use Rattle.records.proofs.Passing.{test_holds}
 use Rattle.hourfile.specs.Files.{file_verdict}
 use Rattle.ledger.specs.declared.entry.Entry.{Entry}
 use Rattle.ledger.specs.declared.fault.DayFault.{DayFault}
@@ -12,10 +12,6 @@ use Rattle.ledger.specs.Numbers.{Numbers, places}
 use Rattle.ledger.specs.Settling.{room_verdict, settle_verdict}
 
 module _ (n : Numbers) (ledger : List Entry) (file : List ℕ) where
-  pub refused_ledger : (fault : DayFault) → Err fault ≡ ledger_verdict n ledger → settle_verdict n ledger file ≡ Err fault
-  unfolding settle_verdict
-  refused_ledger fault is = rw (← is)
-
   pub refused_file : (fault : FileFault) → Ok tt ≡ ledger_verdict n ledger → Err fault ≡ file_verdict file n.owners → settle_verdict n ledger file ≡ Err (File fault)
   unfolding settle_verdict
   refused_file fault holds is = rw (← holds, ← is)
@@ -28,9 +24,12 @@ module _ (n : Numbers) (ledger : List Entry) (file : List ℕ) where
   unfolding settle_verdict
   accepted_by_all holds passes room = rw (← holds, ← passes, ← room)
 
--- what each of them says where it finds no fault
+no_fault : {E : Type 0} (test : Bool) (fault : E) → Ok tt ≡ unless test fault → test ≡ true
+no_fault true fault is = refl
+no_fault false fault is = cc
+
 pub holds_if : (n : Numbers) (ledger : List Entry) → Ok tt ≡ ledger_verdict n ledger → ledger_holds n ledger ≡ true
-holds_if n ledger is = test_holds (ledger_holds n ledger) Ledger (sym (ap is_ok is))
+holds_if n ledger is = no_fault (ledger_holds n ledger) Ledger is
 
 pub room_if : (n : Numbers) → Ok tt ≡ room_verdict n → n.used + places n ≤ n.size
-room_if n is = leb-true (n.used + places n) n.size (test_holds (leb (n.used + places n) n.size) Full (sym (ap is_ok is)))
+room_if n is = leb-true (n.used + places n) n.size (no_fault (leb (n.used + places n) n.size) Full is)

@@ -1,9 +1,11 @@
 -- What stands in the entries of a ledger, and which entries may stand there.
-use Rattle.std.specs.Prelude.{ℕ, zero, suc, ◌+◌, max, Bool, true, cond, ◌&&◌, List, [], ◌∷◌, ℤ, pos, ◌==◌, nat_le, unsigned_abs}
+use Rattle.std.specs.Prelude.{ℕ, ◌+◌, ◌≤◌, Bool, cond, ◌&&◌, List, [], ◌∷◌, map, ℤ, pos, ◌==◌, nat_le, unsigned_abs}
+use Rattle.std.specs.List.{list_all, range_with_len}
 use Rattle.market.specs.Amounts.{total}
 use Rattle.hourfile.specs.Lines.{line_of}
 use Rattle.hourfile.specs.declared.lines.Line.{Line}
 use Rattle.hourfile.specs.declared.lines.Line.TheVariants.{DayAheadEnergy, Balancing, Virtual, Reserve, DayAheadMakeWhole, RealTimeMakeWhole, Uplift, Residual}
+use Rattle.hourfile.specs.declared.lines.Lines.{Lines}
 use Rattle.ledger.specs.declared.entry.Entry.{Entry}
 
 -- The standing amount of an hour, a place and a line: the sum over the entries there.
@@ -17,23 +19,12 @@ unfoldable pub standing : List Entry → ℕ → ℕ → Line → ℤ
 standing entries hour place line = total (counted hour place line) entries
 
 -- ---- the tests
--- A test of each element, and of each number below one.
-abbrev pub every : {X : Type 0} → (X → Bool) → List X → Bool
-every test [] = true
-every test (x ∷ xs) = test x && every test xs
+abbrev pub all_lines : List Line
+all_lines = DayAheadEnergy ∷ Balancing ∷ Virtual ∷ Reserve ∷ DayAheadMakeWhole ∷ RealTimeMakeWhole ∷ Uplift ∷ Residual ∷ []
 
-abbrev pub every_below : (ℕ → Bool) → ℕ → Bool
-every_below test zero = true
-every_below test (suc n) = test n && every_below test n
-
--- The largest of eight amounts, either way, and whether it keeps within a limit.
-abbrev pub largest : (Line → ℤ) → ℕ
-largest amount =
-    max (max (max (unsigned_abs (amount DayAheadEnergy)) (unsigned_abs (amount Balancing))) (max (unsigned_abs (amount Virtual)) (unsigned_abs (amount Reserve))))
-    (max (max (unsigned_abs (amount DayAheadMakeWhole)) (unsigned_abs (amount RealTimeMakeWhole))) (max (unsigned_abs (amount Uplift)) (unsigned_abs (amount Residual))))
-
+-- No line passes a limit, either way.
 unfoldable pub is_within : ℕ → (Line → ℤ) → Bool
-is_within limit amount = nat_le (largest amount) limit
+is_within limit amount = list_all (λ a. nat_le (unsigned_abs a) limit) (map amount all_lines)
 
 abbrev pub is_hour : ℕ → Bool
 is_hour hour = nat_le 1 hour && nat_le hour 24
@@ -43,12 +34,17 @@ unfoldable pub is_sound : ℕ → Entry → Bool
 is_sound owners e = is_hour e.hour && (nat_le e.place owners && is_within 100000000000 (line_of e.lines))
 
 unfoldable pub all_sound : ℕ → List Entry → Bool
-all_sound owners entries = every (is_sound owners) entries
+all_sound owners entries = list_all (is_sound owners) entries
 
 -- No standing amount passes 50,000,000,000 either way.
 abbrev pub amounts_within : ℕ → (ℕ → ℕ → Line → ℤ) → Bool
 amounts_within owners amounts =
-    every_below (λ hour. every_below (λ place. is_within 50000000000 (amounts (hour + 1) place)) (owners + 1)) 24
+    list_all (λ hour. list_all (λ place. is_within 50000000000 (amounts hour place)) (range_with_len 0 (owners + 1))) (range_with_len 1 24)
 
 unfoldable pub standings_within : ℕ → List Entry → Bool
 standings_within owners entries = amounts_within owners (standing entries)
+
+-- ---- the calculations
+-- Lines whose sums and differences fit 64 bits: none passes 1,000,000,000,000,000 either way.
+abbrev pub IsSmall : Lines → Type 0
+IsSmall lines = (line : Line) → unsigned_abs (line_of lines line) ≤ 1000000000000000

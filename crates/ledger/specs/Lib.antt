@@ -1,4 +1,3 @@
-pub mod Answering
 pub mod Days
 pub mod Entries
 pub mod Faults

@@ -1,5 +1,6 @@
 -- The numbers of a day.
-use Rattle.std.specs.Prelude.{ℕ, ◌+◌, ◌-◌, ◌/◌, ◌%◌, ◌^◌, bit_or}
+use Rattle.std.specs.Prelude.{ℕ, ◌+◌, ◌-◌, ◌^◌, bit_or}
+use Rattle.std.specs.Int.{bit_at}
 
 -- How many owners share it, how many entries its ledger has, how many of them, the first ones, are used, and the mask of its settled
 -- hours.
@@ -15,7 +16,7 @@ places n = n.owners + 1
 
 -- Hour h is bit h - 1 of the mask: 1 where it is settled, else 0.
 abbrev pub settled_at : ℕ → ℕ → ℕ
-settled_at mask hour = mask / 2 ^ (hour - 1) % 2
+settled_at mask hour = bit_at mask (hour - 1)
 
 -- The mask with an hour settled.
 abbrev pub marked : ℕ → ℕ → ℕ

@@ -2,6 +2,7 @@
 use Rattle.std.specs.Prelude.{◌≡◌, ℕ, ◌+◌, ◌≤◌, true, cond, List, map, ℤ, pos, ◌≤ℤ◌, Result, ◌==◌, ◌≢◌, nat_le}
 use Rattle.std.specs.List.{range_with_len}
 use Rattle.blocks.specs.Firsts.{Verdict, first_of, lifted, unless}
+use Rattle.blocks.specs.Lone.{answered, if_sound}
 use Rattle.hourfile.specs.Files.{file_verdict}
 use Rattle.hourfile.specs.HourAnswers.{hour_of}
 use Rattle.hourfile.specs.Hours.{amount, sum_below, trade_lines, uplift_lines}
@@ -12,7 +13,6 @@ use Rattle.pools.specs.Bases.{withdrawn}
 use Rattle.ledger.specs.declared.entry.Entry.{Entry}
 use Rattle.ledger.specs.declared.fault.DayFault.{DayFault}
 use Rattle.ledger.specs.declared.fault.DayFault.TheVariants.{File, Full}
-use Rattle.ledger.specs.Answering.{day_answered, if_day_sound}
 use Rattle.ledger.specs.Entries.{standing}
 use Rattle.ledger.specs.Ledgers.{ledger_holds, ledger_verdict, used_of}
 use Rattle.ledger.specs.Numbers.{Numbers, marked, places, settled_at}
@@ -28,20 +28,20 @@ settle_verdict n ledger file = first_of (ledger_verdict n ledger) (first_of (lif
 
 -- Accepted, one entry is appended for each place, the hour is settled, and the answer is their number. Refused, all is as it was.
 abbrev pub settle_answer : Numbers → List Entry → List ℕ → Result ℕ DayFault
-settle_answer n ledger file = day_answered (settle_verdict n ledger file) (places n)
+settle_answer n ledger file = answered (settle_verdict n ledger file) (places n)
 
 abbrev pub settled_day : Numbers → ℕ → Numbers
 settled_day n hour = record { owners = n.owners; size = n.size; used = n.used + places n; settled = marked n.settled hour }
 
 abbrev pub settle_day : Numbers → List Entry → List ℕ → Numbers
-settle_day n ledger file = if_day_sound (settle_verdict n ledger file) (settled_day n (hour_of file)) n
+settle_day n ledger file = if_sound (settle_verdict n ledger file) (settled_day n (hour_of file)) n
 
 abbrev pub settled_ledger : Numbers → List Entry → ℕ → (ℕ → Line → ℤ) → List Entry
 settled_ledger n ledger hour amounts = appended n.used (postings hour (used_of n ledger) amounts (places n)) ledger
 
 abbrev pub settle_ledger : Numbers → List Entry → List ℕ → (ℕ → ℕ → ℕ) → (ℕ → ℕ → ℕ) → List Entry
 settle_ledger n ledger file uplift residual =
-    if_day_sound (settle_verdict n ledger file) (settled_ledger n ledger (hour_of file) (amount file n.owners uplift residual)) ledger
+    if_sound (settle_verdict n ledger file) (settled_ledger n ledger (hour_of file) (amount file n.owners uplift residual)) ledger
 
 -- A plain settling weighs each owner by what it withdrew.
 abbrev pub by_withdrawn : ℕ → ℕ → ℕ

@@ -9,7 +9,7 @@ mod settling;
 
 /// The numbers of a day, whatever its stage: how many owners share it, how many entries its ledger has, how many of them, the first
 /// ones, are used, and the mask of its settled hours, in which hour h is bit h − 1.
-#[derive(Clone, Copy)]
+#[derive(Clone, Copy, Debug, PartialEq, Eq)]
 pub(crate) struct DayNumbers {
     owners: u32,
     length: usize,
@@ -23,7 +23,7 @@ pub(crate) struct DayNumbers {
 }
 
 /// A day whose hours may be settled.
-#[derive(Drop)]
+#[derive(Debug, Drop, PartialEq, Eq)]
 pub struct OpenDay {
     numbers: DayNumbers,
 }

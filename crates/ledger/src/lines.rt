@@ -1,74 +1,80 @@
 //! Sums, differences and limits of lines.
 
-ghost use Rattle.std.specs.Prelude.{◌≡◌, ◌≤◌, ◌+ℤ◌, ◌-ℤ◌, unsigned_abs};
+ghost use Rattle.std.specs.Prelude.{◌≡◌, ◌+ℤ◌, ◌-ℤ◌, map};
 ghost use Rattle.hourfile.specs.Lines.{line_of};
 ghost use Rattle.hourfile.specs.declared.lines.Line.{Line};
-ghost use Rattle.ledger.specs.Entries.{is_within, largest};
+ghost use Rattle.ledger.specs.Entries.{IsSmall, all_lines, is_within};
 
-use hourfile::lines::Lines;
+use hourfile::lines::{Line, Lines};
 
-/// Line by line, one more than the other. Neither passes 1,000,000,000,000,000 either way.
+/// The lines of which each has the amount that a function says.
+fn lines_of<F: Fn(Line) -> i64>(amount: F) -> Lines
+    requires { F.IsAlwaysCallable amount }
+    ensures { (line : Line) → F.post amount line (line_of result line) }
+{
+    Lines {
+        day_ahead_energy: amount(Line::DayAheadEnergy),
+        balancing: amount(Line::Balancing),
+        virtual_trade: amount(Line::Virtual),
+        reserve: amount(Line::Reserve),
+        day_ahead_make_whole: amount(Line::DayAheadMakeWhole),
+        real_time_make_whole: amount(Line::RealTimeMakeWhole),
+        uplift: amount(Line::Uplift),
+        residual: amount(Line::Residual),
+    }
+}
+
+/// Line by line, one more than the other.
 pub(crate) fn sum(a: Lines, b: Lines) -> Lines
-    requires first { (line : Line) → unsigned_abs (line_of a line) ≤ 1000000000000000 }
-    requires second { (line : Line) → unsigned_abs (line_of b line) ≤ 1000000000000000 }
+    requires first { IsSmall a }
+    requires second { IsSmall b }
     ensures { (line : Line) → line_of result line ≡ line_of a line +ℤ line_of b line }
 {
-    Lines {
-        day_ahead_energy: a.day_ahead_energy + b.day_ahead_energy,
-        balancing: a.balancing + b.balancing,
-        virtual_trade: a.virtual_trade + b.virtual_trade,
-        reserve: a.reserve + b.reserve,
-        day_ahead_make_whole: a.day_ahead_make_whole + b.day_ahead_make_whole,
-        real_time_make_whole: a.real_time_make_whole + b.real_time_make_whole,
-        uplift: a.uplift + b.uplift,
-        residual: a.residual + b.residual,
-    }
+    lines_of(
+        |line: Line| -> i64
+            requires first { IsSmall a }
+            requires second { IsSmall b }
+            ensures { result ≡ line_of a line +ℤ line_of b line }
+        { a.on(line) + b.on(line) },
+    )
 }
 
-/// Line by line, one less the other. Neither passes 1,000,000,000,000,000 either way.
+/// Line by line, one less the other.
 pub(crate) fn difference(a: Lines, b: Lines) -> Lines
-    requires first { (line : Line) → unsigned_abs (line_of a line) ≤ 1000000000000000 }
-    requires second { (line : Line) → unsigned_abs (line_of b line) ≤ 1000000000000000 }
+    requires first { IsSmall a }
+    requires second { IsSmall b }
     ensures { (line : Line) → line_of result line ≡ line_of a line -ℤ line_of b line }
 {
-    Lines {
-        day_ahead_energy: a.day_ahead_energy - b.day_ahead_energy,
-        balancing: a.balancing - b.balancing,
-        virtual_trade: a.virtual_trade - b.virtual_trade,
-        reserve: a.reserve - b.reserve,
-        day_ahead_make_whole: a.day_ahead_make_whole - b.day_ahead_make_whole,
-        real_time_make_whole: a.real_time_make_whole - b.real_time_make_whole,
-        uplift: a.uplift - b.uplift,
-        residual: a.residual - b.residual,
-    }
+    lines_of(
+        |line: Line| -> i64
+            requires first { IsSmall a }
+            requires second { IsSmall b }
+            ensures { result ≡ line_of a line -ℤ line_of b line }
+        { a.on(line) - b.on(line) },
+    )
 }
 
-/// The largest amount, either way.
-fn largest_of(lines: Lines) -> u64
-    ensures { result ≡ largest (line_of lines) }
+/// The amounts of the eight lines.
+fn amounts(lines: Lines) -> [i64; 8]
+    ensures { result ≡ map (line_of lines) all_lines }
 {
-    let trade = lines
-        .day_ahead_energy
-        .unsigned_abs()
-        .max(lines.balancing.unsigned_abs());
-    let reserve = lines
-        .virtual_trade
-        .unsigned_abs()
-        .max(lines.reserve.unsigned_abs());
-    let make_whole = lines
-        .day_ahead_make_whole
-        .unsigned_abs()
-        .max(lines.real_time_make_whole.unsigned_abs());
-    let shares = lines
-        .uplift
-        .unsigned_abs()
-        .max(lines.residual.unsigned_abs());
-    trade.max(reserve).max(make_whole.max(shares))
+    [
+        lines.day_ahead_energy,
+        lines.balancing,
+        lines.virtual_trade,
+        lines.reserve,
+        lines.day_ahead_make_whole,
+        lines.real_time_make_whole,
+        lines.uplift,
+        lines.residual,
+    ]
 }
 
 /// Whether no line passes a limit, either way.
 pub(crate) fn are_within(lines: Lines, limit: u64) -> bool
     ensures { result ≡ is_within limit (line_of lines) }
 {
-    largest_of(lines) <= limit
+    amounts(lines)
+        .iter()
+        .all(|amount| amount.unsigned_abs() <= limit)
 }

@@ -1,19 +1,25 @@
 //! What stands at every hour and place, gathered in one pass over the used entries.
 
-ghost use Rattle.std.specs.Prelude.{◌≡◌, ◌+◌, ◌<◌, ◌≤◌, true, false, ◌&&◌, length, replicate, MatchOption};
-ghost use Rattle.ledger.specs.Entries.{all_sound, amounts_within, every_below, is_hour, is_sound, is_within, standings_within};
-ghost use Rattle.ledger.specs.Tables.{Tells, cell_of, in_table};
-ghost use Rattle.hourfile.specs.Lines.{no_lines};
+ghost use Rattle.std.specs.Prelude.{◌≡◌, ◌+◌, ◌≤◌, ◌&&◌, length, replicate, slice_index_or, IfSome, is_some};
+ghost use Rattle.std.specs.List.{list_all, range_with_len};
+ghost use Rattle.ledger.specs.Entries.{all_sound, is_sound, is_within, standings_within};
+ghost use Rattle.ledger.specs.Tables.{Tells, table_within};
+ghost use Rattle.hourfile.specs.Lines.{line_of, no_lines};
 
 use crate::entry::Entry;
 use crate::lines::{are_within, sum};
+use hourfile::hour_number::Hour;
 use hourfile::lines::Lines;
+use hourfile::owners::Owners;
+
+/// The hours of a day.
+const HOURS: usize = 24;
 
 /// The places of an hour: up to 32 owners, and the operator's.
 const PLACES: usize = 33;
 
-/// The cells of the table: 24 hours of 33 places.
-pub(crate) const CELLS: usize = 792;
+/// The lines that stand, by hour and in an hour by place.
+pub(crate) type Table = [[Lines; PLACES]; HOURS];
 
 /// No line of an entry passes this, either way.
 const LINE_LIMIT: u64 = 100_000_000_000;
@@ -21,89 +27,58 @@ const LINE_LIMIT: u64 = 100_000_000_000;
 /// No standing amount passes this, either way.
 const STANDING_LIMIT: u64 = 50_000_000_000;
 
-/// Whether a day has such an hour.
-pub(crate) fn is_hour(hour: u32) -> bool
-    ensures { result ≡ is_hour hour }
+/// The hour of an entry, or none where the entry may not stand in the ledger of a day.
+fn sound_hour(entry: &Entry, owners: Owners) -> Option<Hour>
+    ensures sound { is_some result ≡ is_sound owners.number entry.now }
+    ensures same { IfSome result (λ hour. hour.number ≡ entry.now.hour) }
 {
-    1 <= hour && hour <= 24
-}
-
-/// Where an hour and a place stand in the table.
-pub(crate) fn cell(hour: u32, place: u32) -> usize
-    requires { (1 ≤ hour) × ((hour ≤ 24) × (place ≤ 32)) }
-    ensures exact { result ≡ cell_of hour place }
-    ensures bound { result < 792 }
-{
-    PLACES * (hour as usize - 1) + place as usize
-}
-
-/// Whether an entry may stand in the ledger of a day.
-fn is_sound(entry: Entry, owners: u32) -> bool
-    ensures { result ≡ is_sound owners entry }
-{
-    is_hour(entry.hour) && entry.place <= owners && are_within(entry.lines, LINE_LIMIT)
+    let hour = Hour::new(entry.hour)?;
+    (entry.place <= owners.number && are_within(entry.lines, LINE_LIMIT)).then_some(hour)
 }
 
 /// A table in which nothing stands.
-fn empty_table() -> [Lines; CELLS]
-    ensures { result ≡ replicate 792 no_lines }
+fn empty_table() -> Table
+    ensures { result ≡ replicate 24 (replicate 33 no_lines) }
 {
-    [Lines::none(); CELLS]
+    [[Lines::none(); PLACES]; HOURS]
 }
 
 /// What stands in the entries, or none if one of them is not sound.
-fn gathered(entries: &[Entry], owners: u32) -> Option<[Lines; CELLS]>
-    requires few { owners ≤ 32 }
-    requires short { length entries.now ≤ 4096 }
-    ensures { MatchOption result (all_sound owners entries.now ≡ false) (λ table. (all_sound owners entries.now ≡ true) × (length table ≡ 792) × Tells table entries.now) }
+fn gathered(entries: &[Entry], owners: Owners) -> Option<Table>
+    requires { length entries.now ≤ 4096 }
+    ensures sound { is_some result ≡ all_sound owners.number entries.now }
+    ensures tells { IfSome result (λ table. Tells table entries.now) }
 {
     let mut table = empty_table();
     for entry in entries {
-        if !is_sound(*entry, owners) {
-            return None;
-        }
-        let cell = cell(entry.hour, entry.place);
-        table[cell] = sum(table[cell], entry.lines);
+        let hour = sound_hour(entry, owners)?;
+        let (hour, place) = (hour.index(), entry.place as usize);
+        table[hour][place] = sum(table[hour][place], entry.lines);
     }
     Some(table)
 }
 
 /// Whether no amount of an hour passes the limit of standing amounts.
-fn hour_within(table: &[Lines; CELLS], owners: u32, hour: u32) -> bool
-    requires { (1 ≤ hour) × ((hour ≤ 24) × (owners ≤ 32)) }
-    ensures { result ≡ every_below (λ place. is_within 50000000000 (in_table table.now hour place)) (owners + 1) }
+fn hour_within(hour: &[Lines; PLACES], owners: Owners) -> bool
+    ensures { result ≡ list_all (λ place. is_within 50000000000 (line_of (slice_index_or hour.now place no_lines))) (range_with_len 0 (owners.number + 1)) }
 {
-    for place in 0..owners + 1 {
-        if !are_within(table[cell(hour, place)], STANDING_LIMIT) {
-            return false;
-        }
-    }
-    true
+    hour[..=owners.number as usize]
+        .iter()
+        .all(|lines| are_within(*lines, STANDING_LIMIT))
 }
 
 /// Whether no amount of the table passes the limit of standing amounts.
-fn table_within(table: &[Lines; CELLS], owners: u32) -> bool
-    requires { owners ≤ 32 }
-    ensures { result ≡ amounts_within owners (in_table table.now) }
+fn table_within(table: &Table, owners: Owners) -> bool
+    ensures { result ≡ table_within owners.number table.now }
 {
-    for hour in 0..24 {
-        if !hour_within(table, owners, hour + 1) {
-            return false;
-        }
-    }
-    true
+    table.iter().all(|hour| hour_within(hour, owners))
 }
 
 /// What stands in the entries, or none if one of them is not sound or an amount that stands is too large.
-pub(crate) fn standing_table(entries: &[Entry], owners: u32) -> Option<[Lines; CELLS]>
-    requires few { owners ≤ 32 }
-    requires short { length entries.now ≤ 4096 }
-    ensures { MatchOption result ((all_sound owners entries.now && standings_within owners entries.now) ≡ false) (λ table. ((all_sound owners entries.now && standings_within owners entries.now) ≡ true) × (length table ≡ 792) × Tells table entries.now) }
+pub(crate) fn standing_table(entries: &[Entry], owners: Owners) -> Option<Table>
+    requires { length entries.now ≤ 4096 }
+    ensures holds { is_some result ≡ (all_sound owners.number entries.now && standings_within owners.number entries.now) }
+    ensures tells { IfSome result (λ table. Tells table entries.now) }
 {
-    let table = gathered(entries, owners)?;
-    if table_within(&table, owners) {
-        Some(table)
-    } else {
-        None
-    }
+    gathered(entries, owners).filter(|table| table_within(table, owners))
 }

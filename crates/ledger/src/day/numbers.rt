@@ -1,7 +1,7 @@
 //! What the numbers of a day say, in whatever stage it is.
 
-ghost use Rattle.std.specs.Prelude.{◌≡◌, ◌+◌, ◌≤◌, length, IfOk};
-ghost use Rattle.ledger.specs.Answering.{day_verdict_in};
+ghost use Rattle.std.specs.Prelude.{◌≡◌, ◌+◌, ◌≤◌, IfOk};
+ghost use Rattle.blocks.specs.Lone.{verdict_in};
 ghost use Rattle.ledger.specs.Days.{plain, state_of};
 ghost use Rattle.ledger.specs.Ledgers.{amount_of, ledger_verdict, used_of};
 ghost use Rattle.ledger.specs.Numbers.{marked, places as places_of};
@@ -11,18 +11,28 @@ ghost use Rattle.ledger.specs.Tables.{Tells};
 use super::DayNumbers;
 use crate::entry::Entry;
 use crate::fault::DayFault;
-use crate::table::{CELLS, cell, is_hour, standing_table};
-use hourfile::lines::{Line, Lines};
+use crate::table::{Table, standing_table};
+use hourfile::hour_number::Hour;
+use hourfile::lines::Line;
+use hourfile::owners::Owners;
 
 /// The mask with an hour settled.
-fn mark(mask: u32, hour: u32) -> u32
-    requires { (1 ≤ hour) × (hour ≤ 24) }
-    ensures { result ≡ marked mask hour }
+fn mark(mask: u32, hour: Hour) -> u32
+    ensures { result ≡ marked mask hour.number }
 {
-    mask | (1 << (hour - 1))
+    mask | (1 << hour.index())
 }
 
 impl DayNumbers {
+    /// How many owners share the day.
+    pub(super) fn owners(&self) -> Owners
+        ensures { result.number ≡ self.now.owners }
+    {
+        Owners {
+            number: self.owners,
+        }
+    }
+
     /// One place for each owner, and the operator's.
     pub(super) fn places(&self) -> usize
         ensures { result ≡ places_of (plain self.now) }
@@ -31,17 +41,14 @@ impl DayNumbers {
     }
 
     /// What stands in the ledger, which has to be the one that the day's calls wrote.
-    pub(super) fn standing(&self, ledger: &[Entry]) -> Result<[Lines; CELLS], DayFault>
-        ensures verdict { day_verdict_in result ≡ ledger_verdict (plain self.now) ledger.now }
-        ensures tells { IfOk result (λ table. (length table ≡ 792) × Tells table (used_of (plain self.now) ledger.now)) }
+    pub(super) fn standing(&self, ledger: &[Entry]) -> Result<Table, DayFault>
+        ensures verdict { verdict_in result ≡ ledger_verdict (plain self.now) ledger.now }
+        ensures tells { IfOk result (λ table. Tells table (used_of (plain self.now) ledger.now)) }
     {
         if ledger.len() != self.length {
             return Err(DayFault::Ledger);
         }
-        match standing_table(&ledger[0..self.used], self.owners) {
-            Some(table) => Ok(table),
-            None => Err(DayFault::Ledger),
-        }
+        standing_table(&ledger[..self.used], self.owners()).ok_or(DayFault::Ledger)
     }
 
     /// Whether one entry for each place fits behind the used ones.
@@ -56,10 +63,9 @@ impl DayNumbers {
     }
 
     /// The numbers after an hour is settled.
-    pub(super) fn settled(&self, hour: u32) -> DayNumbers
-        requires hours { (1 ≤ hour) × (hour ≤ 24) }
-        requires room { self.now.used + places_of (plain self.now) ≤ self.now.length }
-        ensures { plain result ≡ settled_day (plain self.now) hour }
+    pub(super) fn settled(&self, hour: Hour) -> DayNumbers
+        requires { self.now.used + places_of (plain self.now) ≤ self.now.length }
+        ensures { plain result ≡ settled_day (plain self.now) hour.number }
     {
         DayNumbers {
             owners: self.owners,
@@ -80,9 +86,9 @@ impl DayNumbers {
         ensures { result ≡ amount_of (plain self.now) ledger.now hour place line }
     {
         let table = self.standing(ledger)?;
-        match Line::numbered(line) {
-            Some(line) if is_hour(hour) && place <= self.owners => {
-                Ok(table[cell(hour, place)].on(line))
+        match (Hour::new(hour), Line::numbered(line)) {
+            (Some(hour), Some(line)) if place <= self.owners => {
+                Ok(table[hour.index()][place as usize].on(line))
             }
             _ => Err(DayFault::Named),
         }

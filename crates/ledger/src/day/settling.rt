@@ -11,7 +11,6 @@ use crate::entry::Entry;
 use crate::fault::DayFault;
 use crate::posting::post;
 use hourfile::hour;
-use hourfile::owners::Owners;
 use pools::basis::{Basis, Withdrawn};
 
 impl OpenDay {
@@ -30,20 +29,17 @@ impl OpenDay {
         ensures law { is_ok result ≡ true → SettledLaw (numbers self.old) (numbers self.new) ledger.old ledger.new (hour_of file.now) (amount file.now self.old.numbers.owners (U.Basis.weighs uplift.now) (R.Basis.weighs residual.now)) }
     {
         let table = self.numbers.standing(ledger)?;
-        let owners = Owners {
-            number: self.numbers.owners,
-        };
-        let new = hour::settle(file, owners, uplift, residual)?;
+        let new = hour::settle(file, self.numbers.owners(), uplift, residual)?;
         self.numbers.check_room()?;
+        let used = self.numbers.used;
         let places = self.numbers.places();
         post(
-            ledger,
-            self.numbers.used,
-            new.hour.number,
-            &new.places[0..places],
-            &table,
+            &mut ledger[used..used + places],
+            new.hour,
+            &new.places[..places],
+            &table[new.hour.index()][..places],
         );
-        self.numbers = self.numbers.settled(new.hour.number);
+        self.numbers = self.numbers.settled(new.hour);
         Ok(places)
     }
 

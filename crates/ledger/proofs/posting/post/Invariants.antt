@@ -1,8 +1,7 @@
-use Rattle.std.proofs.Common.{◌≡◌, map}
-use Rattle.std.specs.List.{range_with_len}
-use Rattle.ledger.specs.Postings.{appended}
+use Rattle.std.proofs.Common.{◌≡◌, ℕ, ◌<◌, length, get_or}
 use Rattle.ledger.specs.Tables.{posted}
+use Rattle.ledger.proofs.Standing.{blank}
 use Rattle.ledger.proofs.posting.post.Given as goal
 
 abbrev pub invariant-loop-place : goal.invariant-loop-place
-invariant-loop-place l = l.ledger ≡ appended l.used (map (posted l.hour l.new l.table) (range_with_len 0 l.place)) l.initial.ledger
+invariant-loop-place l = (k : ℕ) → k < length l.yielded → get_or l.entries k blank ≡ posted l.hour.number l.new l.standing k

@@ -1,70 +1,69 @@
-use Rattle.std.proofs.Common.{◌≡◌, ◌+◌, true, List, length, get_or, take, set, ◌+ℤ◌, sym, ap, ◌∙◌, subst, arith, length-set, below_more}
-use lib.ListN.{length-replicate}
+use Rattle.std.proofs.Common.{◌≡◌, ◌+◌, ◌-◌, ◌<◌, true, List, get_or, take, length, refl, sym, ◌∙◌, subst, arith, length-take-le}
+use Rattle.std.proofs.lemmas.Bool.{and_from}
 use Rattle.std.proofs.lemmas.List.{take_all}
-use Rattle.hourfile.specs.Lines.{line_of, no_lines}
-use Rattle.hourfile.specs.declared.lines.Lines.{Lines}
+use Rattle.std.proofs.lemmas.List.Folds.{list_all_at, list_all_more}
 use Rattle.ledger.specs.declared.entry.Entry.{Entry}
 use Rattle.ledger.specs.Entries.{all_sound, is_sound}
-use Rattle.ledger.specs.Tables.{Tells, cell_of}
-use Rattle.ledger.proofs.Every.{every_from, every_false}
-use Rattle.ledger.proofs.Gathering.{Adds, Bounded, bounded_more, bounded_none, tells_more, tells_none}
+use Rattle.ledger.specs.Tables.{Tells}
+use Rattle.ledger.proofs.Gathering.{tells_more, tells_none, whole_more, whole_none}
 use Rattle.ledger.proofs.Holding.{sound_parts}
-use Rattle.ledger.proofs.Standing.{blank}
+use Rattle.ledger.proofs.Standing.{blank, standing_within}
 use Rattle.ledger.proofs.table.gathered.Goals as goal
 
 pub loop-entry-init : goal.loop-entry-init
-loop-entry-init c = (
-  λ k h. absurd (omega arith),
-  ap length c.empty_table-table.ensures ∙ length-replicate 792 no_lines,
-  tells_none 792 c.empty_table-table.result c.empty_table-table.ensures,
-  bounded_none 792 c.empty_table-table.result c.empty_table-table.ensures,
-)
-
-pub returns-then-not-is_sound : goal.returns-then-not-is_sound
 unfolding all_sound
-returns-then-not-is_sound c =
-    every_false (is_sound c.args.owners) c.args.entries.now c.loop-entry.entry-index blank c.loop-entry-test.true
-    (sym c.is_sound.ensures ∙ c.if-not-is_sound.true)
+loop-entry-init c = record { sound = refl; whole = whole_none c.empty_table-table.result c.empty_table-table.ensures; tells = tells_none 24 33 c.empty_table-table.result c.empty_table-table.ensures }
 
-pub cell-cell-requires : goal.cell-cell-requires
-cell-cell-requires c =
-    let s = sound_parts c.args.owners (get_or c.args.entries.now c.loop-entry.entry-index blank) (sym c.is_sound.ensures ∙ c.if-not-is_sound.false) in
-    (s.from, (s.to, omega arith))
+pub returns-in_err-hour : goal.returns-in_err-hour
+unfolding all_sound
+returns-in_err-hour c =
+    let no = list_all_at (is_sound c.args.owners.number) c.args.entries.now c.loop-entry.entry-index blank c.loop-entry-test.true (sym c.in_err-hour.ensures.sound) in
+    rw (c.from_residual.ensures, no) (record { sound = refl; tells = tt })
+
+pub bounds-table-place : goal.bounds-table-place
+bounds-table-place c =
+    let s = sound_parts c.args.owners.number (get_or c.args.entries.now c.loop-entry.entry-index blank) (sym c.in_ok-hour.ensures.sound) in
+    omega arith
+
+pub bounds-table-place-in_ok-hour : goal.bounds-table-place-in_ok-hour
+bounds-table-place-in_ok-hour c =
+    let s = sound_parts c.args.owners.number (get_or c.args.entries.now c.loop-entry.entry-index blank) (sym c.in_ok-hour.ensures.sound) in
+    omega arith
 
 pub sum-requires : goal.sum-requires
 sum-requires c =
-    let s = sound_parts c.args.owners (get_or c.args.entries.now c.loop-entry.entry-index blank) (sym c.is_sound.ensures ∙ c.if-not-is_sound.false) in
+    let s = sound_parts c.args.owners.number (get_or c.args.entries.now c.loop-entry.entry-index blank) (sym c.in_ok-hour.ensures.sound) in
+    let before : List Entry = take c.loop-entry.entry-index c.args.entries.now in
+    let long : length before ≡ c.loop-entry.entry-index = length-take-le c.loop-entry.entry-index c.args.entries.now (omega arith) in
     record {
-      first = λ line. let size = c.loop-entry.invariant.3 c.cell-cell.result line in omega arith;
-      second = λ line. let size = s.small line in omega arith;
+      first = λ line.
+          let told = c.loop-entry.invariant.tells c.index-hour.result (get_or c.args.entries.now c.loop-entry.entry-index blank).place line in
+          let within = standing_within c.args.owners.number before c.loop-entry.invariant.sound (c.index-hour.result + 1) (get_or c.args.entries.now c.loop-entry.entry-index blank).place line in
+          rw told (omega arith);
+      second = λ line. let small = s.small line in omega arith;
     }
 
 pub loop-entry-preserved : goal.loop-entry-preserved
+unfolding all_sound
 loop-entry-preserved c =
-    let e : Entry = get_or c.args.entries.now c.loop-entry.entry-index blank in
-    let table : List Lines = c.loop-entry.table in
-    let is : is_sound c.args.owners e ≡ true = sym c.is_sound.ensures ∙ c.if-not-is_sound.false in
-    let s = sound_parts c.args.owners e is in
-    let at : c.cell-cell.result ≡ cell_of e.hour e.place = c.cell-cell.ensures.exact in
-    let adds : Adds table e c.sum.result = record {
-      from = s.from;
-      to = s.to;
-      place = omega arith;
-      inside = let b = c.cell-cell.ensures.bound in let l = c.loop-entry.invariant.1 in omega arith;
-      exact = λ line. c.sum.ensures line ∙ ap (λ n. line_of (get_or table n no_lines) line +ℤ line_of e.lines line) at;
-    } in (
-      below_more _ _ c.loop-entry.invariant.0 is,
-      length-set table c.cell-cell.result c.sum.result ∙ c.loop-entry.invariant.1,
-      subst (λ n. Tells (set table n c.sum.result) (take (c.loop-entry.entry-index + 1) c.args.entries.now)) (sym at)
-          (tells_more table c.args.entries.now c.loop-entry.entry-index blank c.sum.result c.loop-entry-test.true adds c.loop-entry.invariant.2),
-      subst (λ n. Bounded (set table n c.sum.result) (c.loop-entry.entry-index + 1)) (sym at)
-          (bounded_more table e c.sum.result c.loop-entry.entry-index adds s.small c.loop-entry.invariant.3),
-    )
+    let i = c.loop-entry.entry-index in
+    let entries = c.args.entries.now in
+    let is = sym c.in_ok-hour.ensures.sound in
+    let s = sound_parts c.args.owners.number (get_or entries i blank) is in
+    let hour = c.in_ok-hour.ensures.same in
+    let row = c.index-hour.ensures in
+    let below : c.index-hour.result < 24 = omega arith in
+    let whole = c.loop-entry.invariant.whole in
+    record {
+      sound = list_all_more (is_sound c.args.owners.number) entries i blank c.loop-entry-test.true ∙ and_from _ _ c.loop-entry.invariant.sound is;
+      whole = whole_more c.loop-entry.table c.index-hour.result (get_or entries i blank).place c.sum.result below whole;
+      tells = tells_more c.loop-entry.table entries i c.index-hour.result c.sum.result c.loop-entry-test.true (omega arith) (let n = whole.rows in omega arith) (let n = whole.places c.index-hour.result below in omega arith) c.sum.ensures c.loop-entry.invariant.tells;
+    }
 
 pub returns : goal.returns
-unfolding all_sound
-returns c = (
-  every_from (is_sound c.args.owners) c.args.entries.now blank (λ k h. c.loop-entry.invariant.0 k (omega arith)),
-  c.loop-entry.invariant.1,
-  subst (Tells c.loop-entry.table) (take_all c.loop-entry.entry-index c.args.entries.now (omega arith)) c.loop-entry.invariant.2,
-)
+returns c =
+    let all = take_all c.loop-entry.entry-index c.args.entries.now (omega arith) in
+    record {
+      sound = sym (subst (λ es. all_sound c.args.owners.number es ≡ true) all c.loop-entry.invariant.sound);
+      tells = subst (Tells c.loop-entry.table) all c.loop-entry.invariant.tells;
+    }

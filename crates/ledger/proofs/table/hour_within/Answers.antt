@@ -1,27 +1,20 @@
-use Rattle.std.proofs.Common.{◌≡◌, ℕ, ◌+◌, List, get_or, sym, ap, ◌∙◌, arith, below_more}
+use Rattle.std.proofs.Common.{◌≡◌, ℕ, ◌+◌, List, length, get_or, map, take, ap, ◌∙◌, rules, tests, arith, length-take-le, get_or-take}
+use Rattle.std.specs.List.{list_all, range_with_len}
+use Rattle.std.proofs.lemmas.Iterator.{YieldsList-from_slice}
+use Rattle.std.proofs.lemmas.Iterator.Search.{all_from_yields_List}
+use Rattle.std.proofs.lemmas.List.Folds.{list_all-map}
+use Rattle.std.proofs.lemmas.List.FromFn.{fill_by_all}
 use Rattle.hourfile.specs.Lines.{line_of, no_lines}
 use Rattle.hourfile.specs.declared.lines.Lines.{Lines}
 use Rattle.ledger.specs.Entries.{is_within}
-use Rattle.ledger.specs.Tables.{cell_of, in_table}
-use Rattle.ledger.proofs.Every.{below_all, below_false}
 use Rattle.ledger.proofs.table.hour_within.Goals as goal
-
--- the test on what stands at an hour and a place is the test on its cell
-at_cell : (table : List Lines) (hour place cell : ℕ) → cell ≡ cell_of hour place → is_within 50000000000 (in_table table hour place) ≡ is_within 50000000000 (line_of (get_or table cell no_lines))
-at_cell table hour place cell e = ap (λ n. is_within 50000000000 (line_of (get_or table n no_lines))) (sym e)
-
-pub returns-then-not-are_within : goal.returns-then-not-are_within
-returns-then-not-are_within c =
-    sym (below_false (λ place. is_within 50000000000 (in_table c.args.table.now c.args.hour place)) (c.args.owners + 1)
-    c.loop-place.place c.loop-place-test.true
-    (at_cell c.args.table.now c.args.hour c.loop-place.place c.cell.result c.cell.ensures.exact ∙ sym c.are_within.ensures ∙ c.if-not-are_within.true))
-
-pub loop-place-preserved : goal.loop-place-preserved
-loop-place-preserved c =
-    below_more _ _ c.loop-place.invariant
-    (at_cell c.args.table.now c.args.hour c.loop-place.place c.cell.result c.cell.ensures.exact ∙ sym c.are_within.ensures ∙ c.if-not-are_within.false)
 
 pub returns : goal.returns
 returns c =
-    sym ((below_all (λ place. is_within 50000000000 (in_table c.args.table.now c.args.hour place)) (c.args.owners + 1)).1
-    (λ k h. c.loop-place.invariant k (omega arith)))
+    let hour : List Lines = c.args.hour.now in
+    let count : ℕ = c.args.owners.number + 1 in
+    let at : ℕ → Lines = λ place. get_or hour place no_lines in
+    let long = c.told-hour in
+    let made : take count hour ≡ map at (range_with_len 0 count) = fill_by_all at (take count hour) count no_lines (length-take-le count hour (omega arith)) (λ k below. get_or-take count hour k no_lines below) in
+    let tested = all_from_yields_List {all = take count hour} (λ lines. is_within 50000000000 (line_of lines)) _ _ _ c.all.ensures.ran (YieldsList-from_slice _ c.iter.ensures.rest) (λ x b q k. search (rules, tests)) in
+    tested ∙ ap (list_all (λ lines. is_within 50000000000 (line_of lines))) made ∙ list_all-map (λ lines. is_within 50000000000 (line_of lines)) at (range_with_len 0 count)

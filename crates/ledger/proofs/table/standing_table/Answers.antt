@@ -1,22 +1,15 @@
-use Rattle.std.proofs.Common.{sym, ◌∙◌}
-use Rattle.std.proofs.lemmas.Bool.{and_from, and_right}
+use Rattle.std.proofs.Common.{◌≡◌, ◌∙◌, of_calls}
 use Rattle.ledger.specs.Entries.{all_sound, standings_within}
+use Rattle.ledger.specs.Tables.{Tells, table_within}
 use Rattle.ledger.proofs.Gathering.{tells_within}
+use Rattle.ledger.proofs.Options.{filtered}
 use Rattle.ledger.proofs.table.standing_table.Goals as goal
 
-pub returns-then-table_within : goal.returns-then-table_within
-returns-then-table_within c =
-    let told = c.in_ok-table.ensures in
-    let same = tells_within c.args.owners c.in_ok-table.table c.args.entries.now c.requires.few told.2 in (
-      and_from (all_sound c.args.owners c.args.entries.now) (standings_within c.args.owners c.args.entries.now)
-          told.0 (sym same ∙ sym c.table_within.ensures ∙ c.if-table_within.true),
-      told.1,
-      told.2,
-    )
-
-pub returns-else-table_within : goal.returns-else-table_within
-returns-else-table_within c =
-    let told = c.in_ok-table.ensures in
-    let same = tells_within c.args.owners c.in_ok-table.table c.args.entries.now c.requires.few told.2 in
-    and_right (all_sound c.args.owners c.args.entries.now) (standings_within c.args.owners c.args.entries.now)
-    (sym same ∙ sym c.table_within.ensures ∙ c.if-table_within.false)
+pub returns : goal.returns
+returns c =
+    let owners = c.args.owners.number in
+    let entries = c.args.entries.now in
+    let k = filtered (λ table. Tells table entries) _ c.gathered.result c.filter.result (all_sound owners entries) (standings_within owners entries)
+    c.gathered.ensures.sound c.gathered.ensures.tells
+    (λ x b tells asked. (let is : b ≡ table_within owners x = search of_calls in is) ∙ tells_within owners x entries tells) c.filter.ensures in
+    record { holds = k.0; tells = k.1 }

@@ -1,18 +1,15 @@
-use Rattle.std.proofs.Common.{◌+◌, sym, ◌∙◌, arith, below_more}
-use Rattle.ledger.specs.Entries.{every_below, is_within}
-use Rattle.ledger.specs.Tables.{in_table}
-use Rattle.ledger.proofs.Every.{below_all, below_false}
+use Rattle.std.proofs.Common.{◌+◌, get_or, ◌∙◌, rules, tests}
+use Rattle.std.specs.List.{list_all, range_with_len}
+use Rattle.std.proofs.lemmas.Iterator.{YieldsList-from_slice}
+use Rattle.std.proofs.lemmas.Iterator.Search.{all_from_yields_List}
+use Rattle.hourfile.specs.Lines.{line_of, no_lines}
+use Rattle.ledger.specs.Entries.{is_within}
+use Rattle.ledger.proofs.Gathering.{rows_within}
 use Rattle.ledger.proofs.table.table_within.Goals as goal
-
-pub returns-then-not-hour_within : goal.returns-then-not-hour_within
-returns-then-not-hour_within c =
-    sym (below_false (λ hour. every_below (λ place. is_within 50000000000 (in_table c.args.table.now (hour + 1) place)) (c.args.owners + 1)) 24
-    c.loop-hour.hour c.loop-hour-test.true (sym c.hour_within.ensures ∙ c.if-not-hour_within.true))
-
-pub loop-hour-preserved : goal.loop-hour-preserved
-loop-hour-preserved c = below_more _ _ c.loop-hour.invariant (sym c.hour_within.ensures ∙ c.if-not-hour_within.false)
 
 pub returns : goal.returns
 returns c =
-    sym ((below_all (λ hour. every_below (λ place. is_within 50000000000 (in_table c.args.table.now (hour + 1) place)) (c.args.owners + 1)) 24).1
-    (λ k h. c.loop-hour.invariant k (omega arith)))
+    all_from_yields_List {all = c.args.table.now}
+    (λ row. list_all (λ place. is_within 50000000000 (line_of (get_or row place no_lines))) (range_with_len 0 (c.args.owners.number + 1)))
+    _ _ _ c.all.ensures.ran (YieldsList-from_slice _ c.iter.ensures.rest) (λ x b q k. search (rules, tests))
+    ∙ rows_within c.args.owners.number c.args.table.now c.told-table

@@ -1,122 +1,115 @@
-use Rattle.std.proofs.Common.{◌≡◌, ℕ, ◌+◌, ◌-◌, ◌<◌, ◌≤◌, List, map, length, get_or, take, nat_abs, Ok, sym, refl, ap, ◌∙◌, subst, ⊎_elim, arith, length-take, get_or-take}
-use native.Mathlib.Nat.{sub-zero}
+use Rattle.std.proofs.Common.{◌≡◌, ℕ, ◌+◌, ◌-◌, ◌≤◌, List, [], map, length, get_or, take, Ok, sym, refl, ap, ◌∙◌, subst, arith, length-take, length-take-le, get_or-take}
+use borrow.Rule.Slice.PartMut.{put_mid}
 use Rattle.std.specs.List.{range_with_len}
-use Rattle.std.proofs.lemmas.List.{get_or_past}
+use Rattle.std.proofs.lemmas.List.{get_or_default}
+use Rattle.std.proofs.lemmas.List.FromFn.{length-map-range_with_len}
 use Rattle.std.proofs.lemmas.Result.{err_from_is_err_and}
-use Rattle.std.proofs.lemmas.Bool.{cases_lt, false≢true}
-use Rattle.hourfile.specs.HourAnswers.{Settles, hour_of}
+use Rattle.std.proofs.lemmas.Bool.{false≢true}
+use Rattle.hourfile.specs.HourAnswers.{hour_of}
 use Rattle.hourfile.specs.Hours.{amount}
 use Rattle.hourfile.specs.Lines.{line_of, no_lines}
-use Rattle.hourfile.specs.declared.hour_lines.HourLines.{HourLines}
 use Rattle.hourfile.specs.declared.lines.Line.{Line}
 use Rattle.hourfile.specs.declared.lines.Lines.{Lines}
-use Rattle.hourfile.proofs.Settling.{nothing_on}
 use Rattle.ledger.specs.declared.entry.Entry.{Entry}
 use Rattle.ledger.specs.Days.{numbers}
-use Rattle.ledger.specs.Numbers.{Numbers}
-use Rattle.ledger.specs.Postings.{appended}
-use Rattle.ledger.specs.Settling.{SettledLaw, settled_day, settled_ledger}
+use Rattle.ledger.specs.Ledgers.{used_of}
+use Rattle.ledger.specs.Numbers.{Numbers, places}
+use Rattle.ledger.specs.Postings.{appended, posting, postings}
+use Rattle.ledger.specs.Settling.{SettledLaw, settle_verdict, settled_day, settled_ledger}
 use Rattle.ledger.specs.Tables.{posted}
-use Rattle.ledger.proofs.Gathering.{table_bounded}
+use Rattle.ledger.proofs.Appending.{appended_by_part}
 use Rattle.ledger.proofs.Holding.{held}
 use Rattle.ledger.proofs.Posted.{posted_is}
-use Rattle.ledger.proofs.Refusing.{accepted_by_all, holds_if, refused_file, refused_ledger, refused_room, room_if}
+use Rattle.ledger.proofs.Refusing.{accepted_by_all, holds_if, refused_file, refused_room, room_if}
 use Rattle.ledger.proofs.Settled.{settled_law}
 use Rattle.ledger.proofs.day.OpenDay.settle.Goals as goal
 
 -- ---- refused
 pub returns-in_err-table : goal.returns-in_err-table
+unfolding settle_verdict
 returns-in_err-table g c =
     let p = err_from_is_err_and c.from_residual.result c.from_residual.ensures.1 in
-    let v = refused_ledger (numbers c.args.self.now) c.args.ledger.now c.args.file.now _ c.in_err-table.ensures.verdict in
-    rw (p.1, p.2, v) (record { answer = refl; day = refl; entries = refl; law = λ ok. absurd (false≢true ok) })
+    rw (p.1, p.2, ← c.in_err-table.ensures.verdict) (record { answer = refl; day = refl; entries = refl; law = λ ok. absurd (false≢true ok) })
 
 pub returns-in_err-new : goal.returns-in_err-new
 returns-in_err-new g c =
     let p = err_from_is_err_and c.from_residual-in_err-new.result c.from_residual-in_err-new.ensures.1 in
-    let v = refused_file (numbers c.args.self.now) c.args.ledger.now c.args.file.now _ c.in_ok-table.ensures.verdict c.in_err-new.ensures.verdict in
+    let v = refused_file (numbers c.args.self.now) c.args.ledger.now c.args.file.now _ c.in_ok-table.ensures.verdict (rw c.owners.ensures at c.in_err-new.ensures.verdict) in
     rw (p.1, p.2, v) (record { answer = refl; day = refl; entries = refl; law = λ ok. absurd (false≢true ok) })
 
 pub returns-in_err-check_room : goal.returns-in_err-check_room
 returns-in_err-check_room g c =
     let p = err_from_is_err_and c.from_residual-in_err-check_room.result c.from_residual-in_err-check_room.ensures.1 in
-    let v = refused_room (numbers c.args.self.now) c.args.ledger.now c.args.file.now _ c.in_ok-table.ensures.verdict c.in_ok-new.ensures.verdict c.in_err-check_room.ensures in
+    let v = refused_room (numbers c.args.self.now) c.args.ledger.now c.args.file.now _ c.in_ok-table.ensures.verdict (rw c.owners.ensures at c.in_ok-new.ensures.verdict) c.in_err-check_room.ensures in
     rw (p.1, p.2, v) (record { answer = refl; day = refl; entries = refl; law = λ ok. absurd (false≢true ok) })
 
 -- ---- accepted
--- the lines that are posted: one for each place
-module _ (owners count : ℕ) (few : owners ≤ 32) (is : count ≡ owners + 1) (lines : List Lines) (whole : length lines ≡ 33) where
-  part_length : length (take (count - 0) lines) ≡ owners + 1
-  part_length = let n = sub-zero count in simp length-take (omega arith)
-
-  part_at : (place : ℕ) → place ≤ owners → get_or (take (count - 0) lines) place no_lines ≡ get_or lines place no_lines
-  part_at place h = get_or-take (count - 0) lines place no_lines (let n = sub-zero count in omega arith)
-
-part_bounded : (file : List ℕ) (owners count : ℕ) (uplift residual : ℕ → ℕ → ℕ) (few : owners ≤ 32) (is : count ≡ owners + 1) (hour : HourLines) → Settles file owners uplift residual hour
-    → (place : ℕ) (line : Line) → nat_abs (line_of (get_or (take (count - 0) hour.places) place no_lines) line) ≤ 14000000000
-part_bounded file owners count uplift residual few is hour s place line =
-    ⊎_elim
-    (λ (h : place < owners + 1).
-    let same = ap (λ x. line_of x line) (part_at owners count few is hour.places hour.whole place (omega arith)) ∙ s.exact place line (omega arith) in
-    rw same (s.laws.bounded place line))
-    (λ (h : owners + 1 ≤ place).
-    let n = part_length owners count few is hour.places hour.whole in
-    let same = ap (λ x. line_of x line) (get_or_past (take (count - 0) hour.places) place no_lines (omega arith)) ∙ nothing_on line in
-    rw same (omega arith))
-    (cases_lt place (owners + 1))
-
-pub post-requires : goal.post-requires
-post-requires g c =
+pub slice_bounds-post-end : goal.slice_bounds-post-end
+slice_bounds-post-end g c =
     let n = numbers c.args.self.now in
-    let ledger = c.args.ledger.now in
-    let few = c.args.self.now.numbers.few in
-    let new = c.in_ok-new.new in
-    let s = c.in_ok-new.ensures.settles in
-    let holds = holds_if n ledger c.in_ok-table.ensures.verdict in
-    let h = held n ledger holds in
-    let same_length = h.same_length in
+    let same_length = (held n c.args.ledger.now (holds_if n c.args.ledger.now c.in_ok-table.ensures.verdict)).same_length in
     let room = room_if n c.in_ok-check_room.ensures in
     let count = c.places-places.ensures in
-    let long = part_length n.owners c.places-places.result few count new.places new.whole in
-    record {
-      hours = (s.from, s.to);
-      few = omega arith;
-      room = omega arith;
-      bounded = λ place line. omega (arith, part_bounded c.args.file.now n.owners c.places-places.result _ _ few count new s place line);
-      standing = λ place line l. omega (arith, table_bounded n ledger c.in_ok-table.table holds c.in_ok-table.ensures.tells.1 few new.hour.number place line s.from s.to (omega arith));
-    }
+    omega arith
+
+pub post-requires-clause-bounded : goal.post-requires-clause-bounded
+post-requires-clause-bounded g c k d below line =
+    let s = rw c.owners.ensures at c.in_ok-new.ensures.settles in
+    let count = c.places-places.ensures in
+    let places : List Lines = c.in_ok-new.new.places in
+    let whole = c.in_ok-new.new.whole in
+    let long = length-take-le c.places-places.result places (omega arith) in
+    let at : get_or (take c.places-places.result places) k d ≡ get_or places k no_lines = get_or-take c.places-places.result places k d (omega arith) ∙ get_or_default places k d no_lines (omega arith) in
+    let is = s.exact k line (omega arith) in
+    let small = s.laws.bounded k line in
+    rw (at, is) (omega arith)
+
+pub post-requires-clause-limited : goal.post-requires-clause-limited
+post-requires-clause-limited g c k d below line =
+    let n = numbers c.args.self.now in
+    let count = c.places-places.ensures in
+    let row = c.index.ensures in
+    let hour = c.in_ok-new.new.hour in
+    let old : List Lines = get_or c.in_ok-table.table c.index.result [] in
+    let long = length-take c.places-places.result old in
+    let at : get_or (take c.places-places.result old) k d ≡ get_or old k no_lines = get_or-take c.places-places.result old k d (omega arith) ∙ get_or_default old k d no_lines (omega arith) in
+    let small = (held n c.args.ledger.now (holds_if n c.args.ledger.now c.in_ok-table.ensures.verdict)).small (c.index.result + 1) k line (omega arith) (omega arith) (omega arith) in
+    rw (at, c.in_ok-table.ensures.tells c.index.result k line) (omega arith)
 
 pub returns : goal.returns
 returns g c =
     let n = numbers c.args.self.now in
     let ledger = c.args.ledger.now in
     let file = c.args.file.now in
-    let few = c.args.self.now.numbers.few in
     let new = c.in_ok-new.new in
-    let s = c.in_ok-new.ensures.settles in
+    let s = rw c.owners.ensures at c.in_ok-new.ensures.settles in
     let amounts = amount file n.owners (g.U.Basis.weighs c.args.uplift.now) (g.R.Basis.weighs c.args.residual.now) in
     let holds = holds_if n ledger c.in_ok-table.ensures.verdict in
+    let h = held n ledger holds in
+    let same_length = h.same_length in
     let room = room_if n c.in_ok-check_room.ensures in
     let count = c.places-places.ensures in
-    let part = take (c.places-places.result - 0) new.places in
-    let long = part_length n.owners c.places-places.result few count new.places new.whole in
-    let table = c.in_ok-table.table in
-    let v = accepted_by_all n ledger file c.in_ok-table.ensures.verdict c.in_ok-new.ensures.verdict c.in_ok-check_room.ensures in
-    let posts = posted_is n ledger new.hour.number amounts part table s.from s.to few c.in_ok-table.ensures.tells.1
-    (λ place line h. ap (λ x. line_of x line) (part_at n.owners c.places-places.result few count new.places new.whole place h) ∙ s.exact place line h) in
+    let row = c.index.ensures in
+    let low = s.from in
+    let high = s.to in
+    let v = accepted_by_all n ledger file c.in_ok-table.ensures.verdict (rw c.owners.ensures at c.in_ok-new.ensures.verdict) c.in_ok-check_room.ensures in
     let day : numbers (record { numbers = c.settled-self.result }) ≡ settled_day n (hour_of file) = c.settled-self.ensures ∙ ap (settled_day n) s.hour_is in
-    let entries : c.post.new.ledger ≡ settled_ledger n ledger (hour_of file) amounts =
+    let lines : List Lines = new.places in
+    let whole = new.whole in
+    let old : List Lines = get_or c.in_ok-table.table c.index.result [] in
+    let long : length (take c.places-places.result lines) ≡ places n = length-take-le c.places-places.result lines (omega arith) ∙ count in
+    let entries : c.post.new.entries ≡ postings (hour_of file) (used_of n ledger) amounts (places n) =
     c.post.ensures
-    ∙ ap (λ k. appended n.used (map (posted new.hour.number part table) (range_with_len 0 k)) ledger) long
-    ∙ ap (λ xs. appended n.used xs ledger) posts
-    ∙ ap (λ hour. settled_ledger n ledger hour amounts) s.hour_is in
-    let from_is = s.hour_is in
-    let from = s.from in
-    let to = s.to in
-    let law = settled_law n ledger (hour_of file) amounts holds room few (omega arith) (omega arith) s.laws in
+    ∙ ap (λ k. map (posted new.hour.number (take c.places-places.result lines) (take c.places-places.result old)) (range_with_len 0 k)) long
+    ∙ rw count (posted_is n ledger new.hour.number c.index.result amounts c.in_ok-table.table lines (omega arith) c.in_ok-table.ensures.tells s.exact)
+    ∙ ap (λ hour. postings hour (used_of n ledger) amounts (places n)) s.hour_is in
+    let new_long : length c.post.new.entries ≡ places n = ap length entries ∙ length-map-range_with_len (posting (hour_of file) (used_of n ledger) amounts) 0 (places n) in
+    let after : put_mid n.used (n.used + c.places-places.result - n.used) ledger c.post.new.entries ≡ settled_ledger n ledger (hour_of file) amounts =
+    appended_by_part n.used c.post.new.entries ledger (omega arith) c.places-places.result (omega arith) ∙ ap (λ xs. appended n.used xs ledger) entries in
+    let law = settled_law n ledger (hour_of file) amounts (omega arith) (omega arith) s.laws h (omega arith) in
     record {
       answer = rw v (ap Ok count);
       day = rw v day;
-      entries = rw v entries;
-      law = λ _. subst (λ (m : Numbers). SettledLaw n m ledger c.post.new.ledger (hour_of file) amounts) (sym day) (subst (λ (after : List Entry). SettledLaw n (settled_day n (hour_of file)) ledger after (hour_of file) amounts) (sym entries) law);
+      entries = rw v after;
+      law = λ _. rw (day, after) law;
     }
