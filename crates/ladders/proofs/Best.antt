@@ -10,7 +10,7 @@ use Rattle.ladders.specs.Ladder.{Rows, Lawful, PointLaw, start, inside, earned, 
 use Rattle.ladders.proofs.Downward.{downward}
 use Rattle.ladders.proofs.Profits.{earned_none, earned_suc, ends_rise, last_short}
 
--- ---- a turn of the loop
+-- ---- the point of one row more
 pub point_none : (rows : Rows) (price : ℤ) → point_among rows price 0 ≡ 0
 unfolding point_among
 point_none rows price = refl

@@ -8,6 +8,7 @@ use Rattle.ladders.specs.declared.row_ladder.RowLadder.{RowLadder}
 use Rattle.ladders.specs.declared.rows.LadderKind.TheVariants as kind
 use Rattle.ladders.specs.declared.rows.Row.{Row}
 
+-- The types of the code that are aliases there.
 abbrev pub Offer : Type 0
 Offer = RowLadder OfferKind (record { KIND = kind.Offer })
 
@@ -17,6 +18,7 @@ ReserveOffer = RowLadder ReserveKind (record { KIND = kind.Reserve })
 abbrev pub Bid : Type 0
 Bid = RowLadder BidKind (record { KIND = kind.Bid })
 
+-- The rows of a ladder of any kind, and of each.
 abbrev pub rows_of : {K : Type 0} {T : _} → RowLadder K T → List Row
 rows_of ladder = listed ladder.list
 
