@@ -1,5 +1,6 @@
 //! A position over one hour of twelve intervals: what was sold or bought a day ahead, and what then came of it.
 
+// The array types say to the code that an hour has twelve intervals; each `whole_hour` says it to lemmas over these types.
 ghost use Rattle.std.specs.Prelude.{◌≡◌, length};
 
 use crate::figures::{Price, Quantity, Reading, ReservePrice};
