@@ -15,7 +15,7 @@ length-bytes_of (w ∷ ws) = let more = length-bytes_of ws in omega arith
 byte-drop : (bytes : List ℕ) (i j : ℕ) → j ≡ 4 + i → get_or (drop 4 bytes) i 0 ≡ get_or bytes j 0
 byte-drop bytes i j h = get_or-drop 4 bytes i 0 ∙ ap (λ k. get_or bytes k 0) (sym h)
 
-pub word_at-drop : (bytes : List ℕ) (n : ℕ) → word_at (drop 4 bytes) n ≡ word_at bytes (n + 1)
+word_at-drop : (bytes : List ℕ) (n : ℕ) → word_at (drop 4 bytes) n ≡ word_at bytes (n + 1)
 word_at-drop bytes n =
     let p = 4 * n in
     let q = 4 * (n + 1) in
@@ -25,7 +25,7 @@ word_at-drop bytes n =
     let d = byte-drop bytes (p + 3) (q + 3) (omega arith) in
     rw (a, b, c, d)
 
-pub words_of_more : (n : ℕ) (bytes : List ℕ) → words_of (n + 1) bytes ≡ words_of n bytes ++ word_at bytes n ∷ []
+words_of_more : (n : ℕ) (bytes : List ℕ) → words_of (n + 1) bytes ≡ words_of n bytes ++ word_at bytes n ∷ []
 unfolding words_of
 words_of_more zero bytes = refl
 words_of_more (suc n) bytes =
@@ -58,7 +58,7 @@ value_of n h =
     let same : n / 16777216 % 256 ≡ n / 16777216 = omega arith in
     rw same (by_steps n (n / 256) (n / 65536) (n / 16777216) (n % 256) (n / 256 % 256) (n / 65536 % 256) low mid high)
 
-pub bytes_fit : (w : ℤ) → SFits w32 w → of_z w32 w < 2 ^ 32
+bytes_fit : (w : ℤ) → SFits w32 w → of_z w32 w < 2 ^ 32
 bytes_fit w fits = omega (arith, ints)
 
 -- words that are written and read again

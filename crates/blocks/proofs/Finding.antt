@@ -8,7 +8,7 @@ use Rattle.blocks.specs.Words.{word_at}
 
 module _ (p : ℕ → Bool) (a : ℕ) where
   -- nothing is found where nothing is picked
-  pub first_in_nowhere : (n : ℕ) → ((k : ℕ) → a ≤ k → k < n → p k ≡ false) → first_in p a n ≡ None
+  first_in_nowhere : (n : ℕ) → ((k : ℕ) → a ≤ k → k < n → p k ≡ false) → first_in p a n ≡ None
   unfolding first_in
   first_in_nowhere zero none = refl
   first_in_nowhere (suc n) none =
@@ -24,7 +24,7 @@ module _ (p : ℕ → Bool) (a : ℕ) where
   unfolding first_in
   first_in_suc n before h here = let high : leb a n ≡ true = le-leb a n h in rw (before, high, here)
 
-  pub first_in_found : (i n : ℕ) → first_in p a i ≡ None → a ≤ i → p i ≡ true → i < n → first_in p a n ≡ Some i
+  first_in_found : (i n : ℕ) → first_in p a i ≡ None → a ≤ i → p i ≡ true → i < n → first_in p a n ≡ Some i
   unfolding first_in
   first_in_found i zero before h here l = absurd (omega arith)
   first_in_found i (suc n) before h here l =

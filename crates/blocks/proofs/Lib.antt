@@ -1,4 +1,3 @@
-pub mod Choosing
 pub mod Chunks
 pub mod Deciding
 pub mod Encoding
@@ -6,6 +5,5 @@ pub mod Filling
 pub mod Finding
 pub mod Ordering
 pub mod Passing
-pub mod Pasting
 pub mod RoundTrip
 pub mod Sums

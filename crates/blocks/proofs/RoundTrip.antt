@@ -9,7 +9,6 @@ use Rattle.blocks.specs.Words.{check_of}
 use Rattle.blocks.specs.Lone.{bytes_of, words_of, body_of, encoded, decoded}
 use Rattle.blocks.specs.Words.{word_at, word_bytes, with_word}
 use Rattle.blocks.proofs.Sums.{weighted_front}
-use Rattle.blocks.proofs.Pasting.{over}
 use Rattle.blocks.proofs.Encoding.{length-bytes_of, words_of-bytes_of, bytes_of-words_of, value_of}
 
 pub four_first : (bytes : List ℕ) → 4 ≤ length bytes → get_or bytes 0 0 ∷ get_or bytes 1 0 ∷ get_or bytes 2 0 ∷ get_or bytes 3 0 ∷ [] ≡ take 4 bytes
@@ -18,6 +17,13 @@ four_first (a ∷ []) h = absurd (omega arith)
 four_first (a ∷ b ∷ []) h = absurd (omega arith)
 four_first (a ∷ b ∷ c ∷ []) h = absurd (omega arith)
 four_first (a ∷ b ∷ c ∷ d ∷ bytes) h = refl
+
+-- the front is written up to `at`, and the next four bytes are written
+over : (pre e g : List ℕ) (at : ℕ) → length pre ≡ at → take at (pre ++ drop at e) ++ (g ++ drop (at + 4) (pre ++ drop at e)) ≡ (pre ++ g) ++ drop (at + 4) e
+over pre e g at h =
+    let front = take_at pre (drop at e) at h in
+    let back : drop (at + 4) (pre ++ drop at e) ≡ drop (at + 4) e = sym (drop-drop 4 at (pre ++ drop at e)) ∙ ap (drop 4) (drop_at pre (drop at e) at h) ∙ drop-drop 4 at e in
+    rw (front, back) (sym (append_assoc pre g (drop (at + 4) e)))
 
 -- one more word written
 pub put_step : (e : List ℕ) (ws : List ℤ) (i : ℕ) → i < length ws → 4 ≤ length e → with_word ((take 4 e ++ bytes_of (take i ws)) ++ drop (4 * (i + 1)) e) (i + 1) (get_or ws i (pos 0)) ≡ (take 4 e ++ bytes_of (take (i + 1) ws)) ++ drop (4 * (i + 1 + 1)) e
@@ -47,9 +53,6 @@ pub all_written : (r : BlockRecord) (e b₂ b₃ : List ℕ) (check : ℤ) → l
 all_written r e b₂ b₃ check four most body sum third =
     let same : check ≡ pos (check_of (body_of r)) = sum ∙ ap pos (body_check r e b₂ four most body) in
     third ∙ (λ k. with_word (body k) 127 (same k)) ∙ over (body_of r) e (word_bytes (pos (check_of (body_of r)))) 508 (length-body r four most)
-
-pub length-encoded : (r : BlockRecord) → length r.head ≡ 4 → length r.words ≡ 126 → length (encoded r) ≡ 512
-length-encoded r four most = omega (arith, length-body r four most, length-append (body_of r) (word_bytes (pos (check_of (body_of r)))))
 
 last_word : (b : List ℕ) → word_at (drop 508 b) 0 ≡ word_at b 127
 last_word b = rw (get_or-drop 508 b 0 0, get_or-drop 508 b 1 0, get_or-drop 508 b 2 0, get_or-drop 508 b 3 0)

@@ -96,6 +96,7 @@ impl BlockRecord {
 
 /// Opens a block of a file: its record, or its first fault by the limits of where it stands. The fault is that of the lowest-numbered
 /// rule that the block breaks, and a word that a rule looks for is the lowest one.
+#[tactic(auto, using(crate::proofs::Finding::found_first))]
 pub fn open<'a>(part: &'a [u8], block: usize, limits: &Limits) -> Result<Record<'a>, FileFault>
     ensures verdict { verdict_in result ≡ part_verdict limits.now block part.now }
     ensures lowest { LowestOf limits.now block part.now (verdict_in result) }
