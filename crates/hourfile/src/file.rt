@@ -6,7 +6,7 @@ ghost use Rattle.blocks.specs.Lone.{verdict_in};
 ghost use Rattle.blocks.specs.Records.{opened, record_of};
 ghost use Rattle.blocks.specs.declared.fault.FileFault.TheVariants.{Block as block_fault, Length as length_fault};
 ghost use Rattle.blocks.specs.Words.{word_at};
-ghost use Rattle.hourfile.specs.Files.{FirstBlockDecides, blocks_in, file_verdict, limits_at, number_from, part_of, right_length, verdict_at};
+ghost use Rattle.hourfile.specs.Files.{FirstBlockDecides, blocks_in, file_verdict, limits_at, part_of, right_length, verdict_at};
 
 use blocks::block::open;
 use blocks::fault::FileFault;
@@ -15,6 +15,14 @@ use blocks::record::{BLOCK, Record};
 
 /// The most blocks of a file.
 const MOST_BLOCKS: usize = 64;
+
+/// The position number of a block.
+fn position_number(part: &[u8]) -> u32
+    requires { length part.now ≡ 512 }
+    ensures { result ≡ unsigned_abs (word_at part.now 1) }
+{
+    i32::from_le_bytes([part[4], part[5], part[6], part[7]]).unsigned_abs()
+}
 
 /// A file of 1 to 64 whole blocks, for a day of so many owners.
 #[derive(Clone, Copy)]
@@ -57,35 +65,19 @@ impl<'a> HourFile<'a> {
         &self.bytes[start..start + BLOCK]
     }
 
-    /// The position number of a block.
-    fn position_number(&self, block: usize) -> u32
-        requires { block < blocks_in self.now.bytes.now }
-        ensures { result ≡ unsigned_abs (word_at (part_of self.now.bytes.now block) 1) }
-    {
-        let part = self.part(block);
-        i32::from_le_bytes([part[4], part[5], part[6], part[7]]).unsigned_abs()
-    }
-
-    /// The least position number that the block after `before` may have.
-    fn number_from(&self, before: usize) -> u32
-        requires { before < blocks_in self.now.bytes.now }
-        ensures { result ≡ number_from self.now.bytes.now before }
-    {
-        if before == 0 {
-            1
-        } else {
-            self.position_number(before) + 1
-        }
-    }
-
     /// What a block may say where it stands.
     fn limits(&self, block: usize) -> Limits
         requires { block < blocks_in self.now.bytes.now }
         ensures { result ≡ limits_at self.now.bytes.now self.now.owners block }
     {
-        match block.checked_sub(1) {
-            None => Limits::first(self.owners, self.blocks() as u32 - 1),
-            Some(before) => Limits::later(self.bytes[2], self.owners, self.number_from(before)),
+        match block {
+            0 => Limits::first(self.owners, self.blocks() as u32 - 1),
+            1 => Limits::later(self.bytes[2], self.owners, 1),
+            _ => Limits::later(
+                self.bytes[2],
+                self.owners,
+                position_number(self.part(block - 1)) + 1,
+            ),
         }
     }
 

@@ -87,9 +87,9 @@ fn add_parts(places: &mut [Lines; 33], owners: Owners, uplift: &Shares, residual
     let count = owners.number as usize;
     // With `iter_mut().zip(..)` the proof did not close: after the loop it knows nothing of what was written.
     for (place, lines) in places[..count].iter_mut().enumerate() {
-        *lines = lines.with_parts(uplift.owners[place], residual.owners[place]);
+        lines.set_parts(uplift.owners[place], residual.owners[place]);
     }
-    places[count] = places[count].with_parts(uplift.operator, residual.operator);
+    places[count].set_parts(uplift.operator, residual.operator);
 }
 
 /// The eight lines of every place of an hour, or the first fault of its file. Lines 1 to 6 are summed over a place's positions and

@@ -98,16 +98,13 @@ impl Lines {
         self.day_ahead_energy + self.balancing + self.virtual_trade
     }
 
-    /// The lines with the place's parts in the pools: line 7 is minus that in the uplift pool, line 8 that in the residual pool.
-    pub(crate) fn with_parts(self, uplift: i64, residual: i64) -> Lines
+    /// Sets the place's parts in the pools: line 7 is minus that in the uplift pool, line 8 that in the residual pool.
+    pub(crate) fn set_parts(&mut self, uplift: i64, residual: i64)
         requires { unsigned_abs uplift ≤ 14000000000 }
-        ensures { (line : Line) → line_of result line ≡ shared_line (line_of self) uplift residual line }
+        ensures { (line : Line) → line_of self.new line ≡ shared_line (line_of self.old) uplift residual line }
     {
-        Lines {
-            uplift: -uplift,
-            residual,
-            ..self
-        }
+        self.uplift = -uplift;
+        self.residual = residual;
     }
 }
 
