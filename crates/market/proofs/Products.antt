@@ -1,6 +1,5 @@
 -- A product of two bounded numbers, as a word of width w holds it.
 use Rattle.std.proofs.Common.{◌≡◌, ℕ, ◌+◌, ◌*◌, ◌<◌, ◌≤◌, ◌^◌, ℤ, ◌*ℤ◌, unsigned_abs, to_z, of_z, FitsSigned, arith}
-use borrow.Author.Differences.{ints}
 use mir.Syntax.{Width}
 use mir.Val.{hbits}
 use Rattle.std.proofs.lemmas.Int.{to_z-of_z, fits_signed_mul, fits_signed_from_abs}

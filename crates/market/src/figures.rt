@@ -37,6 +37,7 @@ pub type Quantity = Ranged<QuantityKind>;
 /// What a meter read over one interval, in kWh per interval.
 pub type Reading = Ranged<ReadingKind>;
 
+// Written out, since `Clone` is not derived for a generic struct with a ghost field.
 impl<K: FigureKind> Clone for Ranged<K> {
     ghost is_clone = { λ figure copy. copy ≡ figure };
 
@@ -48,6 +49,7 @@ impl<K: FigureKind> Clone for Ranged<K> {
 }
 
 impl<K: FigureKind> Ranged<K> {
+    /// The figure of this number if it is in range.
     pub fn new(value: i32) -> Result<Ranged<K>, OutOfRange>
         ensures { Taken (λ r. r.value) K.FIGURE value result }
     {
@@ -59,6 +61,7 @@ impl<K: FigureKind> Ranged<K> {
     }
 }
 
+/// The kind of a price of energy.
 #[derive(Clone, Copy, Debug, PartialEq, Eq)]
 pub struct PriceKind;
 
@@ -68,6 +71,7 @@ impl FigureKind for PriceKind {
     const FIGURE: Figure = Figure::Price;
 }
 
+/// The kind of a price of reserve.
 #[derive(Clone, Copy, Debug, PartialEq, Eq)]
 pub struct ReservePriceKind;
 
@@ -77,6 +81,7 @@ impl FigureKind for ReservePriceKind {
     const FIGURE: Figure = Figure::ReservePrice;
 }
 
+/// The kind of a quantity.
 #[derive(Clone, Copy, Debug, PartialEq, Eq)]
 pub struct QuantityKind;
 
@@ -86,6 +91,7 @@ impl FigureKind for QuantityKind {
     const FIGURE: Figure = Figure::Quantity;
 }
 
+/// The kind of a reading.
 #[derive(Clone, Copy, Debug, PartialEq, Eq)]
 pub struct ReadingKind;
 

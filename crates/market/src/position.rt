@@ -1,5 +1,8 @@
 //! A position over one hour of twelve intervals: what was sold or bought a day ahead, and what then came of it.
 
+// The array types say to the code that an hour has twelve intervals; each `whole_hour` says it to lemmas over these types.
+ghost use Rattle.std.specs.Prelude.{◌≡◌, length};
+
 use crate::figures::{Price, Quantity, Reading, ReservePrice};
 use crate::side::Side;
 use crate::trade::Trade;
@@ -27,6 +30,7 @@ pub struct ReserveClass {
     pub quantity: Quantity,
     pub offer: ReserveOffer,
     pub intervals: [ReserveInterval; 12],
+    ghost whole_hour: { length intervals ≡ 12 },
 }
 
 /// A position of a resource: day-ahead price and quantity, the twelve intervals, the side with its energy ladder, and reserve.
@@ -37,6 +41,7 @@ pub struct Position {
     pub quantity: Quantity,
     pub intervals: [Interval; 12],
     pub reserve: ReserveClass,
+    ghost whole_hour: { length intervals ≡ 12 },
 }
 
 /// A virtual position: a quantity that is sold or bought a day ahead and never flows.
@@ -51,4 +56,5 @@ pub struct VirtualPosition {
 pub struct ZonePrices {
     pub day_ahead: Price,
     pub real_time: [Price; 12],
+    ghost whole_hour: { length real_time ≡ 12 },
 }

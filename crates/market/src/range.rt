@@ -3,6 +3,7 @@
 ghost use Rattle.market.specs.Figures.{Taken, highest, lowest};
 ghost use Rattle.std.specs.Prelude.{◌≡◌};
 
+use std::error::Error;
 use std::fmt;
 
 /// What a number stands for: an energy price or a reserve price in cents per MWh, a quantity in tenths of a MW, or a reading in kWh
@@ -44,6 +45,8 @@ impl fmt::Display for OutOfRange {
         )
     }
 }
+
+impl Error for OutOfRange {}
 
 impl Figure {
     pub fn lowest(self) -> i32

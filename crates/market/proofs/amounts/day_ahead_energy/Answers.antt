@@ -10,7 +10,7 @@ rate c = multiplied w32 1200 200000 _ _ _ _ (omega (arith, ints)) refl (omega (a
 
 worth : (c : goal.After-from-2)
     → Multiplied w64 c.from.result c.from-2.result (c.sign.result *ℤ pos 1200 *ℤ c.args.position.now.price.value) c.args.position.now.quantity.value 240000000000
-worth c = multiplied w64 240000000 1000 _ _ _ _ (c.from.ensures ∙ (rate c).value) (omega (arith, ints)) (rate c).bound (omega (arith, ints)) (omega arith)
+worth c = let is = (rate c).value in multiplied w64 240000000 1000 _ _ _ _ (omega (arith, ints)) (omega (arith, ints)) (rate c).bound (omega (arith, ints)) (omega arith)
 
 pub overflow_mul-result : goal.overflow_mul-result
 overflow_mul-result c = (worth c).fits

@@ -1,6 +1,6 @@
 use Rattle.std.proofs.Common.{pos, ◌*ℤ◌, ◌-ℤ◌, w64, arith}
 use borrow.Author.Differences.{ints}
-use Rattle.market.specs.Views.{interval_of, size_of}
+use Rattle.market.specs.Views.{size_of}
 use Rattle.market.proofs.Products.{Multiplied, multiplied}
 use Rattle.market.proofs.amounts.imbalance.Goals as goal
 

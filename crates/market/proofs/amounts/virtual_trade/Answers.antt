@@ -26,7 +26,8 @@ quantity c = multiplied w32 100 1000 _ _ _ _ (omega (arith, ints)) refl (omega (
 worth : (c : goal.After-from) → Multiplied w64 c.from.result c.sum-spreads.result (c.sign.result *ℤ pos 100 *ℤ c.args.position.now.quantity.value) c.sum-spreads.result 480000000000
 worth c =
     let between = (spreads c).1 in
-    multiplied w64 100000 4800000 _ _ _ _ (c.from.ensures ∙ (quantity c).value) refl (quantity c).bound (omega (arith, ints)) (omega arith)
+    let is = (quantity c).value in
+    multiplied w64 100000 4800000 _ _ _ _ (omega (arith, ints)) refl (quantity c).bound (omega (arith, ints)) (omega arith)
 
 pub overflow_mul-result : goal.overflow_mul-result
 overflow_mul-result c = (worth c).fits
