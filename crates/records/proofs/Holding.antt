@@ -21,12 +21,12 @@ module _ (part : List ℕ) (block : ℕ) where
   abbrev opened_as : Kind → Opened
   opened_as kind = record { kind = kind; part = part; block = block }
 
+  abbrev HoldsAs : Kind → Figure → ℕ → Type 0
+  HoldsAs kind figure k = Holds figure (opened_as kind) k
+
   -- ---- a resource
   abbrev resource : Opened
   resource = opened_as Resource
-
-  abbrev Q : Kind → Figure → ℕ → Type 0
-  Q kind figure k = Holds figure (opened_as kind) k
 
   resource_held : has_position resource ≡ true → PositionHeld resource
   resource_held has =
@@ -40,14 +40,14 @@ module _ (part : List ℕ) (block : ℕ) where
         side = (side_on.0, rows.0);
         price = each 2;
         quantity = each 3;
-        intervals = interval_words (Q Resource) each;
-        reserve = (each 4, each 5, rows.1, reserve_interval_words (Q Resource) each);
+        intervals = interval_words (HoldsAs Resource) each;
+        reserve = (each 4, each 5, rows.1, reserve_interval_words (HoldsAs Resource) each);
       }
 
   resource_has : PositionHeld resource → has_position resource ≡ true
   resource_has h =
       let r = h.reserve in
-      let each = resource_words (Q Resource) h.intervals r.3 h.price h.quantity r.0 r.1 in
+      let each = resource_words (HoldsAs Resource) h.intervals r.3 h.price h.quantity r.0 r.1 in
       and_from _ _ (eq-eqb (length part) 512 h.price.0)
       (and_from _ _ h.side.0 (and_from _ _ ((ranges_decide resource h.price.0).1 each) (rows_pass resource (h.side.1, r.2))))
 
@@ -65,7 +65,7 @@ module _ (part : List ℕ) (block : ℕ) where
   virtual_has : VirtualHeld virtual → has_virtual_position virtual ≡ true
   virtual_has h =
       and_from _ _ (eq-eqb (length part) 512 h.0.0)
-      (and_from _ _ h.0.1 ((ranges_decide virtual h.0.0).1 (virtual_words (Q Virtual) h.1)))
+      (and_from _ _ h.0.1 ((ranges_decide virtual h.0.0).1 (virtual_words (HoldsAs Virtual) h.1)))
 
   -- ---- the prices of the zone
   abbrev header : Opened
@@ -75,11 +75,11 @@ module _ (part : List ℕ) (block : ℕ) where
   header_held has =
       let whole_on = and_parts (is_whole header) (figures_in_range header) has in
       let each = (ranges_decide header (eqb-true (length part) 512 whole_on.0)).0 whole_on.1 in
-      (each 2, zone_words (Q Header) each)
+      (each 2, zone_words (HoldsAs Header) each)
 
   header_has : ZoneHeld header → has_zone_prices header ≡ true
   header_has h =
-      and_from _ _ (eq-eqb (length part) 512 h.0.0) ((ranges_decide header h.0.0).1 (header_words (Q Header) h.0 h.1))
+      and_from _ _ (eq-eqb (length part) 512 h.0.0) ((ranges_decide header h.0.0).1 (header_words (HoldsAs Header) h.0 h.1))
 
 -- ---- whatever the kind
 position_decides : (kind : Kind) (part : List ℕ) (block : ℕ)

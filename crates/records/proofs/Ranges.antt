@@ -18,15 +18,15 @@ use Rattle.records.specs.Held.{Holds, Whole}
 use Rattle.records.proofs.Passing.{search_decides}
 
 -- ---- the words of each kind that hold figures, whatever is asked of them
-module _ (Q : Figure → ℕ → Type 0) where
+module _ (Has : Figure → ℕ → Type 0) where
   abbrev pub EachWord : Kind → Type 0
-  EachWord kind = (k : ℕ) → IfSome (figure_at kind k) (λ figure. Q figure k)
+  EachWord kind = (k : ℕ) → IfSome (figure_at kind k) (λ figure. Has figure k)
 
   abbrev Interval : ℕ → Type 0
-  Interval t = Q Price (8 + 5 * t) × Q Quantity (9 + 5 * t) × Q Reading (10 + 5 * t)
+  Interval t = Has Price (8 + 5 * t) × Has Quantity (9 + 5 * t) × Has Reading (10 + 5 * t)
 
   abbrev ReserveInterval : ℕ → Type 0
-  ReserveInterval t = Q ReservePrice (11 + 5 * t) × Q Quantity (12 + 5 * t)
+  ReserveInterval t = Has ReservePrice (11 + 5 * t) × Has Quantity (12 + 5 * t)
 
   pub interval_words : EachWord Resource → (t : ℕ) → t < 12 → Interval t
   interval_words each t h =
@@ -42,7 +42,7 @@ module _ (Q : Figure → ℕ → Type 0) where
       (grind (arith, nat_tests), grind (arith, nat_tests))
 
   module _ (intervals : (t : ℕ) → t < 12 → Interval t) (reserve_intervals : (t : ℕ) → t < 12 → ReserveInterval t) where
-    in_interval : (k : ℕ) → 8 ≤ k → k ≤ 67 → Q (interval_figure (nth_of_interval k)) k
+    in_interval : (k : ℕ) → 8 ≤ k → k ≤ 67 → Has (interval_figure (nth_of_interval k)) k
     in_interval k low high =
         let t = (k - 8) / 5 in
         let inside : t < 12 = omega arith in
@@ -50,23 +50,21 @@ module _ (Q : Figure → ℕ → Type 0) where
         let reserve_words = reserve_intervals t inside in
         grind (arith, nat_tests)
 
-    pub resource_words : Q Price 2 → Q Quantity 3 → Q ReservePrice 4 → Q Quantity 5 → EachWord Resource
+    pub resource_words : Has Price 2 → Has Quantity 3 → Has ReservePrice 4 → Has Quantity 5 → EachWord Resource
     resource_words price quantity reserve_price reserve k = grind (arith, nat_tests, in_interval)
 
-  pub virtual_words : Q Quantity 2 → EachWord Virtual
+  pub virtual_words : Has Quantity 2 → EachWord Virtual
   virtual_words quantity k = grind (arith, nat_tests)
 
-  pub zone_words : EachWord Header → (t : ℕ) → t < 12 → Q Price (3 + t)
+  pub zone_words : EachWord Header → (t : ℕ) → t < 12 → Has Price (3 + t)
   zone_words each t h = let price = each (3 + t) in grind (arith, nat_tests)
 
-  pub header_words : Q Price 2 → ((t : ℕ) → t < 12 → Q Price (3 + t)) → EachWord Header
+  pub header_words : Has Price 2 → ((t : ℕ) → t < 12 → Has Price (3 + t)) → EachWord Header
   header_words day_ahead real_time k = let price = real_time (k - 3) in grind (arith, nat_tests)
 
 -- ---- the verdict
 figure_word : (kind : Kind) (k : ℕ) (figure : Figure) → figure_at kind k ≡ Some figure → (1 ≤ k) × (k < 127)
-figure_word Header k figure is = grind (arith, nat_tests)
-figure_word Resource k figure is = grind (arith, nat_tests)
-figure_word Virtual k figure is = grind (arith, nat_tests)
+figure_word kind k figure is = grind (arith, nat_tests)
 
 in_from : (figure : Figure) (z : ℤ) → out_of_range (Some figure) z ≡ false → InRange figure z
 in_from figure z inside = grind (arith, ints)
@@ -74,9 +72,9 @@ in_from figure z inside = grind (arith, ints)
 out_from : (figure : Figure) (z : ℤ) → InRange figure z → out_of_range (Some figure) z ≡ false
 out_from figure z is = grind (arith, ints)
 
-if_some : (Q : Figure → Type 0) (o : Option Figure) → ((figure : Figure) → o ≡ Some figure → Q figure) → IfSome o Q
-if_some Q None each = tt
-if_some Q (Some figure) each = each figure refl
+if_some : (Has : Figure → Type 0) (o : Option Figure) → ((figure : Figure) → o ≡ Some figure → Has figure) → IfSome o Has
+if_some Has None each = tt
+if_some Has (Some figure) each = each figure refl
 
 module _ (rec : Opened) (whole : Whole rec) where
   abbrev bad : ℕ → Bool

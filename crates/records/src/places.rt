@@ -21,6 +21,7 @@ pub(crate) fn twelve<T: Copy, F: Fn(usize) -> Option<T>>(read: F) -> Option<[T; 
     ensures { MatchOption result (Missed (F.post read) 12) (AllFound (F.post read) 12) }
 {
     let mut all = [read(0)?; 12];
+    // `&mut all[1..]` by itself gets no proof, since the type of the elements is a parameter.
     let places = &mut all[..];
     fill(&mut places[1..], |t| read(t + 1))?;
     Some(all)

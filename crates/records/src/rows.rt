@@ -35,6 +35,7 @@ const RESERVE: RowPlace = RowPlace {
 };
 
 impl RowPlace {
+    /// Where the rows of a kind of ladder stand.
     fn of(kind: LadderKind) -> RowPlace
         ensures { result ≡ place_of kind }
     {

@@ -22,8 +22,8 @@ pub(crate) fn resource_side(block: &Record) -> Option<Side>
     ensures { Reads side_meaning (SideHolds (opened block.now)) (side_at (opened block.now).part) result }
 {
     match side_letter(block)? {
-        'G' => Some(Side::Generator(ladder(block)?)),
-        'L' => Some(Side::DispatchableLoad(ladder(block)?)),
+        'G' => ladder(block).map(Side::Generator),
+        'L' => ladder(block).map(Side::DispatchableLoad),
         'N' if block.word(ENERGY.counted)? == 0 => Some(Side::LoadWithoutBids),
         _ => None,
     }
