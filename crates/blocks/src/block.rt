@@ -56,7 +56,7 @@ impl BlockRecord {
         ensures back { decoded (encoded self.now) ≡ self.now }
     {
         let mut part = [0; BLOCK];
-        part[0..4].copy_from_slice(&self.head);
+        part[..4].copy_from_slice(&self.head);
         put_words(&mut part, &self.words);
         let check = check_sum(&part) as i32;
         put_word(&mut part, 127, check);

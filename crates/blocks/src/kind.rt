@@ -22,7 +22,7 @@ pub(crate) enum Ladder {
     Reserve,
 }
 
-/// What a word of a resource holds: a figure, of which a quantity may not pass the last end of its ladder.
+/// What a word of a resource holds, if it holds a figure. A quantity may not pass the last end of its ladder.
 #[derive(Clone, Copy, Debug, PartialEq, Eq)]
 pub(crate) enum Content {
     Price,

@@ -72,6 +72,7 @@ impl Limits {
             ..Limits::alone()
         }
     }
+
     /// Whether a block of this kind may stand here.
     pub(crate) fn may_stand(&self, kind: Kind) -> bool
         ensures { result ≡ may_stand self.now kind }

@@ -84,7 +84,7 @@ impl Block<'_> {
         self.fault_unless(few, Rule::Rows, at)
     }
 
-    /// The rows make a ladder.
+    /// The rows make a ladder. They are not too many, since their count was checked before.
     fn check_ladder(&self, ladder: Ladder, kind: LadderKind) -> Result<(), BlockFault>
         requires { rows_in ladder self.now.part.now ≤ most_rows kind }
         ensures { result ≡ ladder_verdict kind self.now.part.now self.now.number (rows_start ladder) (rows_in ladder self.now.part.now) }
