@@ -36,9 +36,7 @@ pub(crate) fn with(record: BlockRecord, word: usize, value: i32) -> BlockRecord 
 
 /// The record with the same price, schedule, reading, reserve price and reserve schedule in every interval.
 pub(crate) fn with_intervals(record: BlockRecord, figures: [i32; 5]) -> BlockRecord {
-    (8..68)
-        .step_by(5)
-        .fold(record, |record, first| with_words(record, first, &figures))
+    (8..68).step_by(5).fold(record, |record, first| with_words(record, first, &figures))
 }
 
 /// A load without bids, with one price and one reading in every interval.

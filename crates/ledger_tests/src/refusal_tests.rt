@@ -1,7 +1,5 @@
 use crate::making::{file_of, header, load, two_owners};
-use crate::telling::{
-    check_settles, entry, refusal_of, refused, refused_by, settled, unused,
-};
+use crate::telling::{check_settles, entry, refusal_of, refused, refused_by, settled, unused};
 use blocks::fault::Refusal;
 use ledger::day::OpenDay;
 use ledger::entry::Entry;

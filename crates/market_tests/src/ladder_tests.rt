@@ -114,8 +114,14 @@ fn fault<K: RowKind>(rows: &[Row]) -> Option<LadderFault> {
 
 #[test]
 fn first_bad_row_of_an_offer(rt: HostRuntime) {
-    assert_eq!(rt; fault::<OfferKind>(&[step(0, 0)]), Some(LadderFault::BadRow(0)));
-    assert_eq!(rt; fault::<OfferKind>(&[step(0, -1)]), Some(LadderFault::BadRow(0)));
+    assert_eq!(rt;
+        fault::<OfferKind>(&[step(0, 0)]),
+        Some(LadderFault::BadRow(0))
+    );
+    assert_eq!(rt;
+        fault::<OfferKind>(&[step(0, -1)]),
+        Some(LadderFault::BadRow(0))
+    );
     assert_eq!(rt;
         fault::<OfferKind>(&[step(0, 1), step(0, 1)]),
         Some(LadderFault::BadRow(1))
@@ -152,7 +158,10 @@ fn first_bad_row_of_a_bid(rt: HostRuntime) {
         fault::<BidKind>(&[step(5, 2), step(5, 3), step(4, 3)]),
         Some(LadderFault::BadRow(2))
     );
-    assert_eq!(rt; fault::<BidKind>(&[step(200_000, 1), step(-200_000, 1_000)]), None);
+    assert_eq!(rt;
+        fault::<BidKind>(&[step(200_000, 1), step(-200_000, 1_000)]),
+        None
+    );
 }
 
 #[test]
@@ -167,7 +176,10 @@ fn reserve_has_few_rows_and_no_price_below_0(rt: HostRuntime) {
     ];
     assert_eq!(rt; fault::<ReserveKind>(&rows), Some(LadderFault::TooManyRows));
     assert_eq!(rt; fault::<ReserveKind>(&rows[0..5]), None);
-    assert_eq!(rt; fault::<ReserveKind>(&[step(-1, 1)]), Some(LadderFault::BadRow(0)));
+    assert_eq!(rt;
+        fault::<ReserveKind>(&[step(-1, 1)]),
+        Some(LadderFault::BadRow(0))
+    );
 }
 
 #[test]

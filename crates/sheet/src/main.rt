@@ -10,8 +10,8 @@ use ledger::day::OpenDay;
 use ledger::entry::Entry;
 use ledger::fault::DayFault;
 use std::alloc::{AllocError, Global};
-use std::io::Read;
 use std::io;
+use std::io::Read;
 
 // One block, which every file has.
 const SHORTEST: usize = 512;
