@@ -13,8 +13,8 @@ use market::trade::Trade;
 fn side_letter(block: &Record) -> Option<char>
     ensures { Reads (λ letter. letter) (Whole (opened block.now)) (byte_at (opened block.now).part 1) result }
 {
-    let part = block.part();
-    (part.len() == BLOCK).then(|| char::from(part[1]))
+    let part: &[u8; BLOCK] = block.part().as_array()?;
+    Some(char::from(part[1]))
 }
 
 /// The side of a resource, with its energy ladder. A load without bids has no energy rows.
