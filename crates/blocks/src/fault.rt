@@ -46,6 +46,7 @@ pub enum Layer {
 }
 
 /// What a fault tells: its number, its layer, and its block and word, which are 0 where it has none.
+// Plain numbers, and no `Option` of a block and a word: a refusal is printed as these numbers.
 #[derive(Clone, Copy, Debug, PartialEq, Eq)]
 pub struct Refusal {
     pub number: u32,

@@ -33,6 +33,7 @@ pub(crate) enum Content {
 
 impl Kind {
     /// The kind that the first byte of a block names, if it names one.
+    // This byte and the side letters are matched as the letters of the format, and have no enum of their own.
     pub(crate) fn named(letter: char) -> Option<Kind>
         ensures { result ≡ kind_of letter }
     {

@@ -68,6 +68,7 @@ impl Block<'_> {
     }
 
     /// The rows of a ladder, and what stands where it could have more.
+    // A library has fixed memory: room for the rows of any ladder. A record reads its rows by itself, since its part may have any length.
     fn rows(&self, ladder: Ladder) -> [Row; 20]
         ensures { result ≡ rows_from self.now.part.now (rows_start ladder) 20 }
     {

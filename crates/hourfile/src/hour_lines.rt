@@ -6,6 +6,7 @@ use crate::hour_number::Hour;
 use crate::lines::Lines;
 
 /// The lines of an hour by place: those of the owners, then the operator's, then nothing.
+// A library has fixed memory: room for the places of any number of owners.
 #[derive(Clone, Copy, Debug, PartialEq, Eq)]
 pub struct HourLines {
     pub hour: Hour,

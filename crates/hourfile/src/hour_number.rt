@@ -3,6 +3,7 @@
 ghost use Rattle.std.specs.Prelude.{◌≡◌, ◌-◌, ◌≤◌, ◌↔◌, IfSome, IsSome};
 
 /// An hour of a day: 1 to 24.
+// Like `Owners` but for its bound: one type over a kind would need a trait, two markers and a `Clone` by hand.
 #[derive(Clone, Copy, Debug, PartialEq, Eq, PartialOrd, Ord, Hash)]
 pub struct Hour {
     pub number: u32,

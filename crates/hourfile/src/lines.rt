@@ -35,6 +35,7 @@ pub struct Lines {
 
 impl Line {
     /// The line of a number, 1 to 8.
+    // No `TryFrom` beside it: that would be a second name for one table.
     pub fn numbered(number: u32) -> Option<Line>
         ensures { result ≡ line_numbered number }
     {

@@ -42,7 +42,7 @@ pub fn profit<L: Ladder>(ladder: &L, price: i32, quantity: u64) -> i64
     ensures law { ProfitLaw (L.means ladder.now) price }
     ensures bound { unsigned_abs result ≤ 40000000000 }
 {
-    // The trait gives its rows by number, and two values run along, the profit and where the row starts: a `fold` of the pair would be no
+    // The trait gives its rows by number, and two values are kept from row to row, the profit and where the row starts: a `fold` of the pair would be no
     // plainer.
     let mut profit: i64 = 0;
     let mut from: u64 = 0;

@@ -4,6 +4,7 @@ ghost use Rattle.std.specs.Prelude.{◌≡◌, ℕ, ◌<◌, ◌≤◌, length, 
 ghost use Rattle.ladders.specs.Rows.{AllGood, FirstFault, MakesLadder, follows, gained, good_after, in_range, in_step, lowest_price, most_rows};
 ghost use Rattle.ladders.specs.declared.rows.LadderFault.TheVariants.{BadRow};
 
+use std::error::Error;
 use std::{fmt, iter};
 
 /// The lowest price there is, in cents per MWh.
@@ -49,6 +50,8 @@ impl fmt::Display for LadderFault {
         }
     }
 }
+
+impl Error for LadderFault {}
 
 impl LadderKind {
     fn most_rows(self) -> usize
@@ -133,9 +136,7 @@ impl LadderKind {
         if rows.len() > self.most_rows() {
             return Err(LadderFault::TooManyRows);
         }
-        match self.first_bad(rows) {
-            Some(row) => Err(LadderFault::BadRow(row)),
-            None => Ok(()),
-        }
+        self.first_bad(rows)
+            .map_or(Ok(()), |row| Err(LadderFault::BadRow(row)))
     }
 }

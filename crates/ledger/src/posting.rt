@@ -19,6 +19,7 @@ pub(crate) fn post(entries: &mut [Entry], hour: Hour, new: &[Lines], standing: &
     requires limited { All IsSmall standing.now }
     ensures { entries.new ≡ map (posted hour.number new.now standing.now) (range_with_len 0 (length new.now)) }
 {
+    // Over the slices with their index, and each entry written whole.
     for (place, (new, standing)) in new.iter().zip(standing).enumerate() {
         entries[place] = Entry {
             hour: hour.number,

@@ -1,4 +1,4 @@
-// Records and hour files for the tests.
+// Records and hour files for the tests. Other crates of tests make their own: a shared library would need contracts for test data.
 use blocks::block::BlockRecord;
 use std::alloc::Global;
 use std::test::Fail;

@@ -93,7 +93,7 @@ fn ledger_of_another_length(rt: HostRuntime) -> Result<(), Fail> {
     Ok(())
 }
 
-/// Lines with one amount, on a line that is counted from 0.
+/// Lines with one amount, on a line that is counted from 0. The loops below go over these numbers, since the calls take them.
 fn on_line(line: usize, amount: i64) -> [i64; 8] {
     let mut lines = [0; 8];
     if let Some(held) = lines.get_mut(line) {

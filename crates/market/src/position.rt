@@ -1,6 +1,6 @@
 //! A position over one hour of twelve intervals: what was sold or bought a day ahead, and what then came of it.
 
-// The array types say to the code that an hour has twelve intervals; each `whole_hour` says it to lemmas over these types.
+// That an hour has twelve intervals stands in the arrays' types; each `whole_hour` states it for lemmas over these types.
 ghost use Rattle.std.specs.Prelude.{◌≡◌, length};
 
 use crate::figures::{Price, Quantity, Reading, ReservePrice};
@@ -24,7 +24,7 @@ pub struct ReserveInterval {
 }
 
 /// One class of reserve: day-ahead price and quantity, the offer, and the twelve intervals.
-#[derive(Clone, Copy)]
+#[derive(Clone, Copy, Debug, PartialEq, Eq)]
 pub struct ReserveClass {
     pub price: ReservePrice,
     pub quantity: Quantity,
@@ -34,7 +34,7 @@ pub struct ReserveClass {
 }
 
 /// A position of a resource: day-ahead price and quantity, the twelve intervals, the side with its energy ladder, and reserve.
-#[derive(Clone, Copy)]
+#[derive(Clone, Copy, Debug, PartialEq, Eq)]
 pub struct Position {
     pub side: Side,
     pub price: Price,

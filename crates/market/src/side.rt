@@ -12,7 +12,7 @@ use ladders::ladder::Ladder;
 use ladders::offer::Offer;
 
 /// Who is settled, with the energy ladder of that side.
-#[derive(Clone, Copy)]
+#[derive(Clone, Copy, Debug, PartialEq, Eq)]
 pub enum Side {
     Generator(Offer),
     DispatchableLoad(Bid),

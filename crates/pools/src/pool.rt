@@ -62,7 +62,7 @@ fn whole_weight<B: Basis>(basis: &B, withdrawn: &Withdrawals) -> u32
         .sum()
 }
 
-/// A pool on its way to owners who weigh something together: the running weight of those who have their share, and what fell to it.
+/// A pool that is being shared among owners who weigh something: the running weight of those who have their share, and what fell to it.
 #[derive(Drop)]
 struct Division {
     amount: i64,

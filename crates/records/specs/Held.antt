@@ -70,7 +70,7 @@ ReadsTwelve meaning Held value_at all = Reads (map meaning) (AllIntervals Held) 
 abbrev pub Counts : ℕ → Opened → ℕ → Type 0
 Counts most rec i = Whole rec × (pos 0 ≤ℤ word_at rec.part i) × (word_at rec.part i ≤ℤ pos most)
 
--- Where the rows of each kind of ladder stand. How many energy rows there may be hangs on the side.
+-- Where the rows of each kind of ladder stand. How many energy rows there may be depends on the side.
 abbrev pub energy_place : ℕ → RowPlace
 energy_place most = record { counted = 6; from = 68; most = most }
 

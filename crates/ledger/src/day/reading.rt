@@ -10,6 +10,7 @@ use crate::fault::DayFault;
 
 impl OpenDay {
     /// The amount that stands at an hour from 1 to 24, a place up to the operator's and a line from 1 to 8.
+    // Plain numbers: a reading may name any, and is refused where a day has no such hour, place or line.
     pub fn amount(
         &self,
         ledger: &[Entry],

@@ -44,6 +44,7 @@ impl OpenDay {
     }
 
     /// Settles an hour file by what the owners withdrew, the uplift pool and the residual pool alike.
+    // One line over `settle`, with clauses that name the withdrawn basis.
     pub fn settle_plain(&mut self, ledger: &mut [Entry], file: &[u8]) -> Result<usize, DayFault>
         ensures answer { result ≡ settle_answer (numbers self.old) ledger.old file.now }
         ensures day { numbers self.new ≡ settle_day (numbers self.old) ledger.old file.now }
