@@ -80,6 +80,7 @@ impl<K: RowKind> Ladder for RowLadder<K> {
     }
 
     fn gain(&self, price: i32, row: usize) -> i32 {
+        // No `map_or`: its closure would need clauses of its own, for what `gain` asks of a row's price.
         match self.row(row) {
             Some(row) => K::KIND.gain(price.clamp(LOWEST_PRICE, HIGHEST_PRICE), row.price),
             None => 0,
