@@ -1,10 +1,12 @@
 //! Why a call on a day is refused. A file's fault lies whole inside the day's.
 
-ghost use Rattle.ledger.specs.Faults.{day_told, of_day};
+ghost use Rattle.ledger.specs.Faults.{day_text, day_told, of_day};
 ghost use Rattle.ledger.specs.declared.fault.DayFault.TheVariants.{File as file_fault};
-ghost use Rattle.std.specs.Prelude.{◌≡◌};
+ghost use Rattle.std.specs.Prelude.{◌≡◌, Some};
 
 use blocks::fault::{FileFault, Layer, Refusal};
+use std::error::Error;
+use std::fmt;
 
 /// The first condition that a call meets, in the order in which they are tried.
 #[derive(Clone, Copy, Debug, PartialEq, Eq)]
@@ -30,6 +32,23 @@ impl From<FileFault> for DayFault {
         DayFault::File(fault)
     }
 }
+
+impl fmt::Display for DayFault {
+    ghost output = { λ fault. Some (day_text fault) };
+
+    fn fmt<W: fmt::Write>(&self, f: &mut fmt::Formatter<W>) -> fmt::Result {
+        f.write_str(match self {
+            DayFault::Owners => "a day has 1 to 32 owners",
+            DayFault::Length => "a ledger has 1 to 4,096 entries",
+            DayFault::Ledger => "the ledger is not the one that the day's calls wrote",
+            DayFault::Named => "a day has no such hour, place or line",
+            DayFault::File(_) => "the hour file is at fault",
+            DayFault::Full => "too few entries are unused",
+        })
+    }
+}
+
+impl Error for DayFault {}
 
 /// A fault of the day layer, which has no block and no word.
 fn of_day(number: u32) -> Refusal
