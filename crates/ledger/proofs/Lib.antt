@@ -3,7 +3,6 @@ pub mod Gathering
 pub mod Holding
 pub mod Lined
 pub mod Mask
-pub mod Options
 pub mod Placing
 pub mod Posted
 pub mod Ranges

@@ -1,14 +1,12 @@
 -- Amounts line by line.
-use Rattle.std.proofs.Common.{◌≡◌, ℕ, ◌<◌, ◌≤◌, true, leb, get_or, map, ℤ, pos, nat_abs, refl, ap, lit<}
+use Rattle.std.proofs.Common.{◌≡◌, ℕ, ◌≤◌, true, ℤ, nat_abs, refl, arith}
 use Rattle.std.proofs.lemmas.Bool.{leb-true, le-leb}
-use Rattle.std.proofs.lemmas.List.Elements.{All-get_or}
-use Rattle.std.proofs.lemmas.List.Sums.{AllPass-from_list_all}
 use Rattle.hourfile.specs.Lines.{line_of, lines_of}
 use Rattle.hourfile.specs.declared.lines.Line.{Line}
 use Rattle.hourfile.specs.declared.lines.Line.TheVariants.{DayAheadEnergy, Balancing, Virtual, Reserve, DayAheadMakeWhole, RealTimeMakeWhole, Uplift, Residual}
 use Rattle.hourfile.specs.declared.lines.Lines.{Lines}
 use Rattle.hourfile.proofs.ByLine.{by_line}
-use Rattle.ledger.specs.Entries.{all_lines, is_within}
+use Rattle.ledger.specs.Entries.{is_within, largest}
 
 -- the lines of amounts have these amounts
 pub line_of_lines : (amount : Line → ℤ) (line : Line) → line_of (lines_of amount) line ≡ amount line
@@ -32,13 +30,11 @@ lines_are lines amount h =
 pub within_each : (limit : ℕ) (amount : Line → ℤ) → is_within limit amount ≡ true → (line : Line) → nat_abs (amount line) ≤ limit
 unfolding is_within
 within_each limit amount h =
-    let each : (k : ℕ) → k < 8 → nat_abs (get_or (map amount all_lines) k (pos 0)) ≤ limit =
-    λ k below. leb-true _ _ (All-get_or (λ a. leb (nat_abs a) limit ≡ true) (map amount all_lines) k (pos 0) below (AllPass-from_list_all (λ a. leb (nat_abs a) limit) (map amount all_lines) h)) in
-    by_line (λ line. nat_abs (amount line) ≤ limit)
-    (each 0 (lit< tt)) (each 1 (lit< tt)) (each 2 (lit< tt)) (each 3 (lit< tt)) (each 4 (lit< tt)) (each 5 (lit< tt)) (each 6 (lit< tt)) (each 7 (lit< tt))
+    let all = leb-true (largest amount) limit h in
+    by_line (λ line. nat_abs (amount line) ≤ limit) (omega arith) (omega arith) (omega arith) (omega arith) (omega arith) (omega arith) (omega arith) (omega arith)
 
 pub within_from : (limit : ℕ) (amount : Line → ℤ) → ((line : Line) → nat_abs (amount line) ≤ limit) → is_within limit amount ≡ true
 unfolding is_within
 within_from limit amount h =
-    let each : (line : Line) → leb (nat_abs (amount line)) limit ≡ true = λ line. le-leb (nat_abs (amount line)) limit (h line) in
-    simp each
+    le-leb (largest amount) limit
+    (omega (arith, h DayAheadEnergy, h Balancing, h Virtual, h Reserve, h DayAheadMakeWhole, h RealTimeMakeWhole, h Uplift, h Residual))

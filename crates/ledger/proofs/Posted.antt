@@ -1,5 +1,5 @@
 -- What stands after entries are appended for an hour.
-use Rattle.std.proofs.Common.{◌≡◌, ℕ, zero, suc, ◌+◌, ◌<◌, ◌≤◌, Bool, true, false, ◌&&◌, cond, eqb, ltb, List, [], ◌∷◌, ◌++◌, map, length, get_or, take, ℤ, pos, ◌+ℤ◌, ◌-ℤ◌, sym, refl, ap, ◌∙◌, inl, inr, append_assoc, get_or-take, arith}
+use Rattle.std.proofs.Common.{◌≡◌, ℕ, zero, suc, ◌+◌, ◌≤◌, Bool, true, false, ◌&&◌, cond, eqb, ltb, List, [], ◌∷◌, ◌++◌, map, length, get_or, take, ℤ, pos, ◌+ℤ◌, ◌-ℤ◌, sym, refl, ap, ◌∙◌, inl, inr, append_assoc, get_or-take, arith}
 use borrow.Author.Differences.{ints}
 use Rattle.std.specs.List.{range_with_len}
 use Rattle.std.proofs.lemmas.List.{append-nil}
@@ -10,12 +10,12 @@ use Rattle.hourfile.specs.Lines.{line_of, lines_of, no_lines}
 use Rattle.hourfile.specs.declared.lines.Line.{Line}
 use Rattle.hourfile.specs.declared.lines.Lines.{Lines}
 use Rattle.ledger.specs.declared.entry.Entry.{Entry}
-use Rattle.ledger.specs.Entries.{counted, standing}
+use Rattle.ledger.specs.Entries.{standing}
 use Rattle.ledger.specs.Ledgers.{used_of}
 use Rattle.ledger.specs.Numbers.{Numbers, places}
 use Rattle.ledger.specs.Postings.{appended, posting, postings}
 use Rattle.ledger.specs.Settling.{settled_day, settled_ledger}
-use Rattle.ledger.specs.Tables.{Tells, in_table, posted}
+use Rattle.ledger.specs.Tables.{Tells, posted}
 use Rattle.ledger.proofs.Appending.{take-appended}
 use Rattle.ledger.proofs.Lined.{line_of_lines}
 use Rattle.ledger.proofs.Ranges.{same_made}

@@ -10,6 +10,7 @@ use Rattle.ledger.specs.declared.fault.DayFault.TheVariants.{File, Full, Ledger}
 use Rattle.ledger.specs.Ledgers.{ledger_holds, ledger_verdict}
 use Rattle.ledger.specs.Numbers.{Numbers, places}
 use Rattle.ledger.specs.Settling.{room_verdict, settle_verdict}
+use Rattle.ledger.proofs.Holding.{Held, held}
 
 module _ (n : Numbers) (ledger : List Entry) (file : List ℕ) where
   pub refused_file : (fault : FileFault) → Ok tt ≡ ledger_verdict n ledger → Err fault ≡ file_verdict file n.owners → settle_verdict n ledger file ≡ Err (File fault)
@@ -28,8 +29,8 @@ no_fault : {E : Type 0} (test : Bool) (fault : E) → Ok tt ≡ unless test faul
 no_fault true fault is = refl
 no_fault false fault is = cc
 
-pub holds_if : (n : Numbers) (ledger : List Entry) → Ok tt ≡ ledger_verdict n ledger → ledger_holds n ledger ≡ true
-holds_if n ledger is = no_fault (ledger_holds n ledger) Ledger is
+pub held_if : (n : Numbers) (ledger : List Entry) → Ok tt ≡ ledger_verdict n ledger → Held n ledger
+held_if n ledger is = held n ledger (no_fault (ledger_holds n ledger) Ledger is)
 
 pub room_if : (n : Numbers) → Ok tt ≡ room_verdict n → n.used + places n ≤ n.size
 room_if n is = leb-true (n.used + places n) n.size (no_fault (leb (n.used + places n) n.size) Full is)

@@ -1,7 +1,7 @@
 -- The law of an accepted settling.
 use Rattle.std.proofs.Common.{◌≡◌, ℕ, ◌+◌, ◌≤◌, true, List, length, ℤ, pos, ◌-ℤ◌, nat_abs, ◌≤ℤ◌, sym, ap, ◌∙◌, subst, inl, inr, arith}
 use borrow.Author.Differences.{ints}
-use Rattle.std.specs.List.{list_all, range_with_len}
+use Rattle.std.specs.List.{range_with_len}
 use Rattle.std.proofs.lemmas.List.Folds.{list_all-append, list_all-map}
 use Rattle.std.proofs.lemmas.Bool.{and_from, cases_eq}
 use Rattle.hourfile.specs.Hours.{HourLaws, trade_lines, uplift_lines}
@@ -11,12 +11,12 @@ use Rattle.hourfile.specs.declared.lines.Line.TheVariants.{DayAheadMakeWhole, Re
 use Rattle.hourfile.proofs.Sums.{sum_same}
 use Rattle.ledger.specs.declared.entry.Entry.{Entry}
 use Rattle.ledger.specs.Entries.{all_sound, is_sound, standing}
-use Rattle.ledger.specs.Ledgers.{ledger_holds, used_of}
+use Rattle.ledger.specs.Ledgers.{used_of}
 use Rattle.ledger.specs.Numbers.{Numbers, places}
 use Rattle.ledger.specs.Postings.{posting, postings}
 use Rattle.ledger.specs.Settling.{SettledLaw, settled_day, settled_ledger}
 use Rattle.ledger.proofs.Appending.{length-appended}
-use Rattle.ledger.proofs.Holding.{Held, held, holds_from, sound_from}
+use Rattle.ledger.proofs.Holding.{Held, holds_from, sound_from}
 use Rattle.ledger.proofs.Lined.{line_of_lines}
 use Rattle.ledger.proofs.Mask.{marked_at}
 use Rattle.ledger.proofs.Posted.{length-new, settled_used, stands_new, stands_other}

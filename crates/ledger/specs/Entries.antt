@@ -1,5 +1,5 @@
 -- What stands in the entries of a ledger, and which entries may stand there.
-use Rattle.std.specs.Prelude.{ℕ, ◌+◌, ◌≤◌, Bool, cond, ◌&&◌, List, [], ◌∷◌, map, ℤ, pos, ◌==◌, nat_le, unsigned_abs}
+use Rattle.std.specs.Prelude.{ℕ, ◌+◌, ◌≤◌, Bool, cond, ◌&&◌, List, [], ◌∷◌, fold, map, max, ℤ, pos, ◌==◌, nat_le, unsigned_abs}
 use Rattle.std.specs.List.{list_all, range_with_len}
 use Rattle.market.specs.Amounts.{total}
 use Rattle.hourfile.specs.Lines.{line_of}
@@ -22,9 +22,12 @@ standing entries hour place line = total (counted hour place line) entries
 abbrev pub all_lines : List Line
 all_lines = DayAheadEnergy ∷ Balancing ∷ Virtual ∷ Reserve ∷ DayAheadMakeWhole ∷ RealTimeMakeWhole ∷ Uplift ∷ Residual ∷ []
 
--- No line passes a limit, either way.
+-- The largest of the eight amounts, either way, and whether it keeps within a limit.
+abbrev pub largest : (Line → ℤ) → ℕ
+largest amount = fold (λ most a. max most (unsigned_abs a)) 0 (map amount all_lines)
+
 unfoldable pub is_within : ℕ → (Line → ℤ) → Bool
-is_within limit amount = list_all (λ a. nat_le (unsigned_abs a) limit) (map amount all_lines)
+is_within limit amount = nat_le (largest amount) limit
 
 abbrev pub is_hour : ℕ → Bool
 is_hour hour = nat_le 1 hour && nat_le hour 24

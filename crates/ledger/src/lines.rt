@@ -3,7 +3,7 @@
 ghost use Rattle.std.specs.Prelude.{◌≡◌, ◌+ℤ◌, ◌-ℤ◌, map};
 ghost use Rattle.hourfile.specs.Lines.{line_of};
 ghost use Rattle.hourfile.specs.declared.lines.Line.{Line};
-ghost use Rattle.ledger.specs.Entries.{IsSmall, all_lines, is_within};
+ghost use Rattle.ledger.specs.Entries.{IsSmall, all_lines, is_within, largest};
 
 use hourfile::lines::{Line, Lines};
 
@@ -70,11 +70,18 @@ fn amounts(lines: Lines) -> [i64; 8]
     ]
 }
 
+/// The largest amount, either way.
+fn largest_of(lines: Lines) -> u64
+    ensures { result ≡ largest (line_of lines) }
+{
+    amounts(lines)
+        .iter()
+        .fold(0, |largest, amount| largest.max(amount.unsigned_abs()))
+}
+
 /// Whether no line passes a limit, either way.
 pub(crate) fn are_within(lines: Lines, limit: u64) -> bool
     ensures { result ≡ is_within limit (line_of lines) }
 {
-    amounts(lines)
-        .iter()
-        .all(|amount| amount.unsigned_abs() <= limit)
+    largest_of(lines) <= limit
 }

@@ -80,5 +80,11 @@ pub(crate) fn standing_table(entries: &[Entry], owners: Owners) -> Option<Table>
     ensures holds { is_some result ≡ (all_sound owners.number entries.now && standings_within owners.number entries.now) }
     ensures tells { IfSome result (λ table. Tells table entries.now) }
 {
-    gathered(entries, owners).filter(|table| table_within(table, owners))
+    let table = gathered(entries, owners)?;
+    // `then_some` and `filter` were tried, and are slower: each copies the table once more.
+    if table_within(&table, owners) {
+        Some(table)
+    } else {
+        None
+    }
 }

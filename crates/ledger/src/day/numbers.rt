@@ -48,7 +48,11 @@ impl DayNumbers {
         if ledger.len() != self.length {
             return Err(DayFault::Ledger);
         }
-        standing_table(&ledger[..self.used], self.owners()).ok_or(DayFault::Ledger)
+        // `ok_or` was tried, and is slower: it copies the table once more.
+        match standing_table(&ledger[..self.used], self.owners()) {
+            Some(table) => Ok(table),
+            None => Err(DayFault::Ledger),
+        }
     }
 
     /// Whether one entry for each place fits behind the used ones.

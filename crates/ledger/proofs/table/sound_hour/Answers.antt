@@ -1,9 +1,15 @@
-use Rattle.std.proofs.Common.{◌≡◌, arith}
+use Rattle.std.proofs.Common.{◌≡◌, Bool, true, false, refl, arith}
+use Rattle.std.specs.Bool.{then_some}
+use Rattle.std.specs.Option.{IfSome, is_some}
 use Rattle.std.proofs.lemmas.Bool.Decides.{nat_tests}
 use Rattle.ledger.specs.Entries.{is_sound}
-use Rattle.ledger.proofs.Options.{kept}
 use Rattle.ledger.proofs.table.sound_hour.Goals as goal
 use Rattle.ledger.proofs.table.sound_hour.Goals.{then-entry-owners, else-entry-owners}
+
+-- a value under a test
+kept : {T : Type 0} (P : T → Type 0) (test : Bool) (x : T) → P x → (is_some (then_some test x) ≡ test) × IfSome (then_some test x) P
+kept P true x h = (refl, h)
+kept P false x h = (refl, tt)
 
 pub returns-in_err-hour-clause-sound : goal.returns-in_err-hour-clause-sound
 unfolding is_sound

@@ -1,15 +1,13 @@
-use Rattle.std.proofs.Common.{◌≡◌, ◌∙◌, of_calls}
-use Rattle.ledger.specs.Entries.{all_sound, standings_within}
-use Rattle.ledger.specs.Tables.{Tells, table_within}
+use Rattle.std.proofs.Common.{refl}
 use Rattle.ledger.proofs.Gathering.{tells_within}
-use Rattle.ledger.proofs.Options.{filtered}
 use Rattle.ledger.proofs.table.standing_table.Goals as goal
 
-pub returns : goal.returns
-returns c =
-    let owners = c.args.owners.number in
-    let entries = c.args.entries.now in
-    let k = filtered (λ table. Tells table entries) _ c.gathered.result c.filter.result (all_sound owners entries) (standings_within owners entries)
-    c.gathered.ensures.sound c.gathered.ensures.tells
-    (λ x b tells asked. (let is : b ≡ table_within owners x = search of_calls in is) ∙ tells_within owners x entries tells) c.filter.ensures in
-    record { holds = k.0; tells = k.1 }
+pub returns-then-table_within-clause-holds : goal.returns-then-table_within-clause-holds
+returns-then-table_within-clause-holds c =
+    let told = c.in_ok-table.ensures in
+    rw (← told.sound, ← tells_within c.args.owners.number c.in_ok-table.table c.args.entries.now told.tells, ← c.table_within.ensures, c.if-table_within.true) refl
+
+pub returns-else-table_within-clause-holds : goal.returns-else-table_within-clause-holds
+returns-else-table_within-clause-holds c =
+    let told = c.in_ok-table.ensures in
+    rw (← told.sound, ← tells_within c.args.owners.number c.in_ok-table.table c.args.entries.now told.tells, ← c.table_within.ensures, c.if-table_within.false) refl

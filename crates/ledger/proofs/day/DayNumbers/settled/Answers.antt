@@ -1,5 +1,5 @@
 use Rattle.std.proofs.Common.{◌^◌, ◌<◌, sym, subst, arith}
-use Rattle.ledger.proofs.Mask.{marked_at, marked_low}
+use Rattle.ledger.proofs.Mask.{marked_low}
 use Rattle.ledger.proofs.day.DayNumbers.settled.Goals as goal
 
 pub invariant_of-result-clause-hours : goal.invariant_of-result-clause-hours

@@ -1,4 +1,4 @@
-use Rattle.std.proofs.Common.{◌≡◌, ℕ, ◌+◌, ◌-◌, ◌≤◌, List, [], map, length, get_or, take, Ok, sym, refl, ap, ◌∙◌, subst, arith, length-take, length-take-le, get_or-take}
+use Rattle.std.proofs.Common.{◌≡◌, ◌+◌, ◌-◌, List, [], map, length, get_or, take, Ok, refl, ap, ◌∙◌, arith, length-take, length-take-le, get_or-take}
 use borrow.Rule.Slice.PartMut.{put_mid}
 use Rattle.std.specs.List.{range_with_len}
 use Rattle.std.proofs.lemmas.List.{get_or_default}
@@ -7,20 +7,17 @@ use Rattle.std.proofs.lemmas.Result.{err_from_is_err_and}
 use Rattle.std.proofs.lemmas.Bool.{false≢true}
 use Rattle.hourfile.specs.HourAnswers.{hour_of}
 use Rattle.hourfile.specs.Hours.{amount}
-use Rattle.hourfile.specs.Lines.{line_of, no_lines}
-use Rattle.hourfile.specs.declared.lines.Line.{Line}
+use Rattle.hourfile.specs.Lines.{no_lines}
 use Rattle.hourfile.specs.declared.lines.Lines.{Lines}
-use Rattle.ledger.specs.declared.entry.Entry.{Entry}
 use Rattle.ledger.specs.Days.{numbers}
 use Rattle.ledger.specs.Ledgers.{used_of}
-use Rattle.ledger.specs.Numbers.{Numbers, places}
+use Rattle.ledger.specs.Numbers.{places}
 use Rattle.ledger.specs.Postings.{appended, posting, postings}
-use Rattle.ledger.specs.Settling.{SettledLaw, settle_verdict, settled_day, settled_ledger}
+use Rattle.ledger.specs.Settling.{settle_verdict, settled_day, settled_ledger}
 use Rattle.ledger.specs.Tables.{posted}
 use Rattle.ledger.proofs.Appending.{appended_by_part}
-use Rattle.ledger.proofs.Holding.{held}
 use Rattle.ledger.proofs.Posted.{posted_is}
-use Rattle.ledger.proofs.Refusing.{accepted_by_all, holds_if, refused_file, refused_room, room_if}
+use Rattle.ledger.proofs.Refusing.{accepted_by_all, held_if, refused_file, refused_room, room_if}
 use Rattle.ledger.proofs.Settled.{settled_law}
 use Rattle.ledger.proofs.day.OpenDay.settle.Goals as goal
 
@@ -47,7 +44,7 @@ returns-in_err-check_room g c =
 pub slice_bounds-post-end : goal.slice_bounds-post-end
 slice_bounds-post-end g c =
     let n = numbers c.args.self.now in
-    let same_length = (held n c.args.ledger.now (holds_if n c.args.ledger.now c.in_ok-table.ensures.verdict)).same_length in
+    let same_length = (held_if n c.args.ledger.now c.in_ok-table.ensures.verdict).same_length in
     let room = room_if n c.in_ok-check_room.ensures in
     let count = c.places-places.ensures in
     omega arith
@@ -73,7 +70,7 @@ post-requires-clause-limited g c k d below line =
     let old : List Lines = get_or c.in_ok-table.table c.index.result [] in
     let long = length-take c.places-places.result old in
     let at : get_or (take c.places-places.result old) k d ≡ get_or old k no_lines = get_or-take c.places-places.result old k d (omega arith) ∙ get_or_default old k d no_lines (omega arith) in
-    let small = (held n c.args.ledger.now (holds_if n c.args.ledger.now c.in_ok-table.ensures.verdict)).small (c.index.result + 1) k line (omega arith) (omega arith) (omega arith) in
+    let small = (held_if n c.args.ledger.now c.in_ok-table.ensures.verdict).small (c.index.result + 1) k line (omega arith) (omega arith) (omega arith) in
     rw (at, c.in_ok-table.ensures.tells c.index.result k line) (omega arith)
 
 pub returns : goal.returns
@@ -84,8 +81,7 @@ returns g c =
     let new = c.in_ok-new.new in
     let s = rw c.owners.ensures at c.in_ok-new.ensures.settles in
     let amounts = amount file n.owners (g.U.Basis.weighs c.args.uplift.now) (g.R.Basis.weighs c.args.residual.now) in
-    let holds = holds_if n ledger c.in_ok-table.ensures.verdict in
-    let h = held n ledger holds in
+    let h = held_if n ledger c.in_ok-table.ensures.verdict in
     let same_length = h.same_length in
     let room = room_if n c.in_ok-check_room.ensures in
     let count = c.places-places.ensures in
