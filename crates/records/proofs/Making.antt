@@ -1,5 +1,5 @@
 -- The ladder of the rows of a record.
-use Rattle.std.proofs.Common.{◌≡◌, ℕ, ◌<◌, ◌≤◌, List, ◌++◌, length, take, drop, pos, nat_abs, Ok, Err, Option, Result, sym, ap, ◌∙◌, subst, arith}
+use Rattle.std.proofs.Common.{◌≡◌, ℕ, ◌<◌, ◌≤◌, List, ◌++◌, length, take, drop, pos, nat_abs, Ok, Err, Option, Result, sym, ap, ◌∙◌, arith}
 use borrow.Author.Differences.{ints}
 use Rattle.std.specs.Result.{result_ok}
 use Rattle.std.proofs.lemmas.List.{length-take-le, map-id, take-append-le, take_all}
@@ -59,10 +59,7 @@ module _ {A : Type 0} (rows_of : A → List Row) (kind : LadderKind) where
         let most = ap (λ (p : RowPlace). p.most) here in
         let fits = most_fit kind in
         let bound : count ≤ place.most = omega (arith, ints, counted.0.2, counted.1) in
-        let same : take count (rows ++ drop count room) ≡ rows_at place rec.part =
-        rows_are (omega (arith, most, fits.1, bound)) found each ∙ ap (rows_from rec.part place.from) told in
+        let same = rows_are (omega (arith, most, fits.1, bound)) found each ∙ ap (rows_from rec.part place.from) told in
         let long : length (rows_at place rec.part) ≡ nat_abs (word_at rec.part place.counted) = length-map-range_with_len (row_of rec.part place.from) 0 _ in
-        let made_is = subst (λ (rs : List Row). Made rows_of kind rs made) same is in
-        let reads = made_reads (rows_at place rec.part) (Counts place.most rec place.counted) made (omega (arith, most, fits.0, bound, long, told)) counted.0 made_is in
-        subst (λ (p : RowPlace). Reads rows_of (RowsHold p kind rec) (rows_at p rec.part) answer) here
-        (subst (Reads rows_of (RowsHold place kind rec) (rows_at place rec.part)) (sym answer-is) reads)
+        rw (← here, answer-is)
+        (made_reads (rows_at place rec.part) (Counts place.most rec place.counted) made (omega (arith, most, fits.0, bound, long, told)) counted.0 (rw same at is))
