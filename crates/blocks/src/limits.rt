@@ -8,7 +8,7 @@ use crate::kind::Kind;
 
 /// The limits of a block: which kinds may stand here, the hours, the number of owners and of following blocks that a header may tell,
 /// and the places (below a number) and position numbers (up to 65,535) that other blocks may have.
-// From and to are fields of their own, since a range type is not `Copy`; `(from..=to).contains(..)` reads them.
+// Public fields, as the definitions name them. From and to are fields of their own, since a range type is not `Copy`; `(from..=to).contains(..)` reads them.
 #[derive(Clone, Copy, Debug, PartialEq, Eq)]
 pub struct Limits {
     pub headers: bool,

@@ -6,6 +6,7 @@ ghost use Rattle.blocks.specs.Words.{with_word, word_at};
 use crate::record::BLOCK;
 
 /// A word; 0 past the end of the block.
+// As its definition says; the public `Record::word` answers an `Option`.
 pub(crate) fn word(part: &[u8; BLOCK], i: usize) -> i32
     ensures { result ≡ word_at part.now i }
 {

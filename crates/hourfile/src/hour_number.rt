@@ -17,6 +17,7 @@ impl Hour {
         ensures some { IsSome result ↔ ((1 ≤ number) × (number ≤ 24)) }
         ensures same { IfSome result (λ hour. hour.number ≡ number) }
     {
+        // No `then_some`: it would make the hour before the test.
         if (1..=24).contains(&number) {
             Some(Hour { number })
         } else {

@@ -55,6 +55,7 @@ impl Line {
 
 impl Lines {
     /// Nothing on any line.
+    // The default by the subject's word, with a promise of its own.
     pub fn none() -> Lines
         ensures { result ≡ no_lines }
     {
@@ -78,6 +79,7 @@ impl Lines {
     }
 
     /// Lines 4 to 6 together, which the uplift pool gathers.
+    // This and `trade_part` each read as their definition does.
     pub(crate) fn uplift_part(self) -> i64
         requires reserve { unsigned_abs self.reserve ≤ 6000000000 }
         requires day_ahead { unsigned_abs self.day_ahead_make_whole ≤ 6000000000 }

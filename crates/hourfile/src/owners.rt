@@ -16,6 +16,7 @@ impl Owners {
         ensures some { IsSome result ↔ ((1 ≤ number) × (number ≤ 32)) }
         ensures same { IfSome result (λ owners. owners.number ≡ number) }
     {
+        // No `then_some`: it would make the value before the test.
         if (1..=32).contains(&number) {
             Some(Owners { number })
         } else {

@@ -76,6 +76,7 @@ impl Tally {
     }
 
     /// The lines in cents, each rounded once.
+    // No `From`: grains are lost.
     pub(crate) fn rounded(self) -> Lines
         ensures { (line : Line) → line_of result line ≡ nearest_cent (grains_on self line) }
     {

@@ -13,6 +13,7 @@ use std::alloc::AllocError;
 use std::marker::PhantomData;
 
 /// A kind of ladder, as a type.
+// Each kind is a marker of its own, so that no bid is taken for an offer.
 pub trait RowKind: Copy {
     ghost KIND: { LadderKind };
 

@@ -25,6 +25,7 @@ fn lines_of<F: Fn(Line) -> i64>(amount: F) -> Lines
 }
 
 /// Line by line, one more than the other.
+// What keeps a side small differs from call to call, so that it is a clause here and in `difference`, and no type.
 pub(crate) fn sum(a: Lines, b: Lines) -> Lines
     requires first { IsSmall a }
     requires second { IsSmall b }

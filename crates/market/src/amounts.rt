@@ -101,6 +101,7 @@ pub fn day_ahead_make_whole(position: &Position) -> i64
 }
 
 /// The lost profit of a class's day-ahead quantity.
+// As a payment's, but of the day-ahead figures: each stands under the name that its line's definition has.
 fn reserve_loss(class: &ReserveClass) -> i64
     ensures value { result ≡ reserve_loss (reserve_class_of class.now) }
     ensures sound { pos 0 ≤ℤ result }

@@ -8,6 +8,7 @@ const GRAINS_PER_CENT: i64 = 12_000;
 const HALF_A_CENT: i64 = 6_000;
 
 /// The nearest whole number of cents; exact halves go away from zero.
+// No `From`: it rounds.
 pub fn to_cents(grains: i64) -> i64
     ensures value { result ≡ nearest_cent grains }
     ensures law { Rounding grains result }

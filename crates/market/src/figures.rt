@@ -10,6 +10,7 @@ use std::alloc::AllocError;
 use std::marker::PhantomData;
 
 /// A kind of figure, as a type.
+// Each kind is a marker of its own, so that no number of one kind is taken for another.
 pub trait FigureKind: Copy {
     ghost FIGURE: { Figure };
 
