@@ -132,7 +132,9 @@ fn check_balance(rt: &impl Abort, ledger: &[Entry]) {
     let mut residual = 0i64;
     let mut uplift = 0i64;
     for entry in ledger {
-        let [first, second, third, fourth, fifth, sixth, seventh, eighth] = entry.lines.into();
+        let [first, second, third, fourth, fifth, sixth, seventh, eighth] = <[i64; 8]>::from(
+            entry.lines,
+        );
         for amount in [first, second, third, eighth] {
             residual = residual.wrapping_add(amount);
         }
