@@ -7,8 +7,8 @@ mod opening;
 mod reading;
 mod settling;
 
-/// The numbers of a day, whatever its stage: how many owners share it, how many entries its ledger has, how many of them, the first
-/// ones, are used, and the mask of its settled hours, in which hour h is bit h − 1.
+/// The plain numbers of a day, whatever its stage: how many owners share it, how many entries its ledger has, how many of them, the
+/// first ones, are used, and the mask of its settled hours, in which hour h is bit h − 1.
 #[derive(Clone, Copy, Debug, PartialEq, Eq)]
 pub(crate) struct DayNumbers {
     owners: u32,
