@@ -19,6 +19,7 @@ unfoldable pub standing : List Entry → ℕ → ℕ → Line → ℤ
 standing entries hour place line = total (counted hour place line) entries
 
 -- ---- the tests
+-- The eight lines.
 abbrev pub all_lines : List Line
 all_lines = DayAheadEnergy ∷ Balancing ∷ Virtual ∷ Reserve ∷ DayAheadMakeWhole ∷ RealTimeMakeWhole ∷ Uplift ∷ Residual ∷ []
 

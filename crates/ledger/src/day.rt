@@ -7,9 +7,9 @@ mod opening;
 mod reading;
 mod settling;
 
-/// The numbers of a day, whatever its stage: how many owners share it, how many entries its ledger has, how many of them, the first
-/// ones, are used, and the mask of its settled hours, in which hour h is bit h − 1.
-// Plain numbers, as a day is; each stage of a day passes its readings on to them.
+/// The plain numbers of a day, whatever its stage: how many owners share it, how many entries its ledger has, how many of them, the
+/// first ones, are used, and the mask of its settled hours, in which hour h is bit h − 1.
+// Each stage of a day passes its readings on to them.
 #[derive(Clone, Copy, Debug, PartialEq, Eq)]
 pub(crate) struct DayNumbers {
     owners: u32,

@@ -1,4 +1,5 @@
-//! Sums, differences and limits of lines.
+//! Sums, differences and limits of lines. That lines are small is a clause where it is needed. A type of such lines would be no plainer:
+//! the lines of a site's entries and of an hour would have to be copied into it.
 
 ghost use Rattle.std.specs.Prelude.{◌≡◌, ◌+ℤ◌, ◌-ℤ◌, map};
 ghost use Rattle.hourfile.specs.Lines.{line_of};
@@ -71,7 +72,7 @@ fn amounts(lines: Lines) -> [i64; 8]
     ]
 }
 
-/// The largest amount, either way.
+/// The largest amount, either way. A test of each line by `all` was tried instead, and is slower.
 fn largest_of(lines: Lines) -> u64
     ensures { result ≡ largest (line_of lines) }
 {

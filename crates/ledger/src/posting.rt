@@ -20,6 +20,7 @@ pub(crate) fn post(entries: &mut [Entry], hour: Hour, new: &[Lines], standing: &
     ensures { entries.new ≡ map (posted hour.number new.now standing.now) (range_with_len 0 (length new.now)) }
 {
     // Over the slices with their index, and each entry written whole.
+    // With `entries.iter_mut()` in the `zip`, which was tried, a proof knows nothing of the entries after the loop but their number.
     for (place, (new, standing)) in new.iter().zip(standing).enumerate() {
         entries[place] = Entry {
             hour: hour.number,

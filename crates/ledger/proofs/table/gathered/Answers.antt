@@ -1,10 +1,8 @@
-use Rattle.std.proofs.Common.{◌≡◌, ◌+◌, ◌<◌, true, List, get_or, take, length, refl, sym, ◌∙◌, subst, arith, length-take-le}
+use Rattle.std.proofs.Common.{◌≡◌, ◌+◌, ◌<◌, List, get_or, take, length, refl, sym, ◌∙◌, arith, length-take-le}
 use Rattle.std.proofs.lemmas.Bool.{and_from}
-use Rattle.std.proofs.lemmas.List.{take_all}
 use Rattle.std.proofs.lemmas.List.Folds.{list_all_at, list_all_more}
 use Rattle.ledger.specs.declared.entry.Entry.{Entry}
 use Rattle.ledger.specs.Entries.{all_sound, is_sound}
-use Rattle.ledger.specs.Tables.{Tells}
 use Rattle.ledger.proofs.Gathering.{tells_more, tells_none, whole_more, whole_none}
 use Rattle.ledger.proofs.Holding.{sound_parts}
 use Rattle.ledger.proofs.Standing.{blank, standing_within}
@@ -58,12 +56,4 @@ loop-entry-preserved c =
       sound = list_all_more (is_sound c.args.owners.number) entries i blank c.loop-entry-test.true ∙ and_from _ _ c.loop-entry.invariant.sound is;
       whole = whole_more c.loop-entry.table c.index-hour.result (get_or entries i blank).place c.sum.result below whole;
       tells = tells_more c.loop-entry.table entries i c.index-hour.result c.sum.result c.loop-entry-test.true (omega arith) (let n = whole.rows in omega arith) (let n = whole.places c.index-hour.result below in omega arith) c.sum.ensures c.loop-entry.invariant.tells;
-    }
-
-pub returns : goal.returns
-returns c =
-    let all = take_all c.loop-entry.entry-index c.args.entries.now (omega arith) in
-    record {
-      sound = sym (subst (λ es. all_sound c.args.owners.number es ≡ true) all c.loop-entry.invariant.sound);
-      tells = subst (Tells c.loop-entry.table) all c.loop-entry.invariant.tells;
     }
