@@ -2,5 +2,4 @@ pub mod Best
 pub mod Downward
 pub mod Held
 pub mod Integers
-pub mod Paired
 pub mod Profits

@@ -60,6 +60,8 @@ pub fn economic_point<L: Ladder>(ladder: &L, price: i32) -> u32
     ensures law { PointLaw (L.means ladder.now) price result }
     ensures bound { result ≤ 1000 }
 {
+    // From the last row on, since the last one that gains decides. A loop over all rows was tried: on up to five rows it can take half the time,
+    // on twenty it takes one and a half times as much.
     (0..ladder.rows())
         .rev()
         .find(|&row| ladder.gain(price, row) >= 0)

@@ -1,7 +1,8 @@
 //! Pools: money that is owed until it is shared out, and how it is shared among the owners, by any basis.
 
-ghost use Rattle.std.specs.Prelude.{◌≡◌, ◌+◌, ◌≤◌, ℤ, ◌-ℤ◌, SomeIff, unsigned_abs};
+ghost use Rattle.std.specs.Prelude.{◌≡◌, ◌+◌, ◌≤◌, ◌-ℤ◌, ◌↔◌, IfSome, IsSome, unsigned_abs};
 ghost use Rattle.std.specs.Int.NonZero.{non_zero_u32_get};
+ghost use Rattle.pools.specs.Amounts.{PoolAmount};
 ghost use Rattle.pools.specs.Sharing.{Shared, before, falls_to, weights};
 
 use crate::basis::Basis;
@@ -16,20 +17,20 @@ const MOST: u64 = 14_000_000_000;
 #[derive(Debug)]
 pub struct Pool {
     amount: i64,
+    ghost bounded: { unsigned_abs amount ≤ 14000000000 },
 }
 
 impl Model for Pool {
-    ghost Value = { ℤ };
+    ghost Value = { PoolAmount };
 
-    ghost view = { λ pool. pool.amount };
-
-    ghost invariant = { λ pool. unsigned_abs pool.amount ≤ 14000000000 };
+    ghost view = { λ pool. record { cents = pool.amount; bounded = pool.bounded } };
 }
 
 impl Pool {
     /// Strikes a pool of this amount; none if the amount is beyond 14,000,000,000 cents either way.
     pub fn strike(amount: i64) -> Option<Pool>
-        ensures { SomeIff result (unsigned_abs amount ≤ 14000000000) amount }
+        ensures some { IsSome result ↔ (unsigned_abs amount ≤ 14000000000) }
+        ensures same { IfSome result (λ pool. pool.cents ≡ amount) }
     {
         // Not `then_some`: it drops what it was given where the condition fails, and no pool can be dropped.
         if amount.unsigned_abs() <= MOST {
@@ -104,8 +105,8 @@ impl Division {
 /// Shares a pool by the weights of a basis, which is asked for owners only. An owner gets what falls to the running weight up to it,
 /// less what fell to the weight before it. Where nothing weighs, the operator takes all.
 pub fn share<B: Basis>(pool: Pool, basis: &B, withdrawn: &Withdrawals) -> Shares
-    ensures bounded { unsigned_abs pool ≤ 14000000000 }
-    ensures shared { Shared pool (weights B.weighs basis.now withdrawn.now.quantities) withdrawn.now.owners result.owners result.operator }
+    ensures bounded { unsigned_abs pool.cents ≤ 14000000000 }
+    ensures shared { Shared pool.cents (weights B.weighs basis.now withdrawn.now.quantities) withdrawn.now.owners result.owners result.operator }
 {
     let Pool { amount } = pool;
     let mut owners = [0; 32];

@@ -31,7 +31,7 @@ impl Basis for Bands {
 
 /// Shares a pool by bands: the promise of sharing, at a basis that the library does not know.
 pub fn share_by_bands(pool: Pool, withdrawn: &Withdrawals) -> Shares
-    ensures { Shared pool (λ place. banded (slice_index withdrawn.now.quantities place)) withdrawn.now.owners result.owners result.operator }
+    ensures { Shared pool.cents (λ place. banded (slice_index withdrawn.now.quantities place)) withdrawn.now.owners result.owners result.operator }
 {
     share(pool, &Bands, withdrawn)
 }

@@ -5,6 +5,7 @@
 pub mod bands;
 #[cfg(test)]
 mod basis_tests;
+pub mod holding;
 #[cfg(test)]
 mod places;
 #[cfg(test)]
